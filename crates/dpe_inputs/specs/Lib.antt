@@ -1,0 +1,2 @@
+pub mod Cdi
+pub mod Meters
