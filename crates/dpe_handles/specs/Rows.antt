@@ -1,0 +1,23 @@
+-- The rows of a handle table, in ascending order of their serials.
+use Rattle.std.specs.Prelude.{◌≡◌, ◌≢◌, ℕ, ◌+◌, ◌*◌, ◌^◌, ◌<◌, ◌≤◌, List, Some, take, slice_get, AllPairs}
+use Rattle.std.specs.Int.{w64, from_be_bytes}
+use Rattle.dpe_handles.specs.declared.row.Row.{Row}
+
+-- a handle is a serial in 8 bytes, the most significant first, and then 8 random bytes
+unfoldable pub serial : List ℕ → ℕ
+serial handle = from_be_bytes w64 (take 8 handle)
+
+abbrev pub IsAscending : List Row → Type 0
+IsAscending rows = AllPairs (λ a b. serial a.handle < serial b.handle) rows
+
+-- the row at this place has these bytes
+abbrev pub HasHandle : List Row → List ℕ → ℕ → Type 0
+HasHandle rows handle at = (row : Row) × (slice_get rows at ≡ Some row) × (row.handle ≡ handle)
+
+-- no row has these bytes
+abbrev pub HasNoHandle : List Row → List ℕ → Type 0
+HasNoHandle rows handle = (at : ℕ) (row : Row) → slice_get rows at ≡ Some row → row.handle ≢ handle
+
+-- the rows that were looked at are so few that 2 to their number is at most 4 times the length and 2
+abbrev pub FewSteps : ℕ → ℕ → ℕ → Type 0
+FewSteps rows before after = (steps : ℕ) × (after ≡ before + steps) × (2 ^ steps ≤ 4 * rows + 2)
