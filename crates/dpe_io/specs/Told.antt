@@ -32,9 +32,9 @@ pub record Lists (C : Type 0) : Type 0 where
   pub ended : List C
 
 module _ {C : Type 0} where
-  -- none waits
+  -- None waits for good. Only a door that tells its connections says so: one that doesn't never answers `None`.
   abbrev pub NoneWaits : Option (Lists C) → Type 0
-  NoneWaits None = ⊤
+  NoneWaits None = ⊥
   NoneWaits (Some l) = l.waiting ≡ []
 
   -- the first that waits goes out

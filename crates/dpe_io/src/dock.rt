@@ -1,6 +1,6 @@
 ghost use Rattle.std.specs.Prelude.{◌≡◌, ℕ, ◌+◌, ◌≤◌, Some, IfOk, All, [], ◌∷◌};
 ghost use Rattle.dpe_io.specs.Causes.{one_more};
-ghost use Rattle.dpe_io.specs.Memory.{IsFaultless, OpensAt};
+ghost use Rattle.dpe_io.specs.Memory.{CountsBack, IsFaultless, OpensAt};
 ghost use Rattle.dpe_io.specs.Told.{all_unopened, IsOpening, Returns, Placed, KeepsPlaces};
 
 use crate::doors::MemConn;
@@ -30,7 +30,7 @@ impl Model for MemDock {
 
 impl MemDock {
     /// A dock of this script and these links. The openings whose numbers `failing` lists fail, those of both kinds
-    /// counted together from 0.
+    /// counted together from 0. It may answer want of memory.
     pub fn new(
         alloc: Global,
         script: MemSource,
@@ -97,6 +97,7 @@ impl Dock for MemDock {
         requires { 1 ≤ self.old.scripts.out }
         ensures back { Returns self.old.scripts script.faults script self.new.scripts }
         ensures places { KeepsPlaces self.old.scripts self.new.scripts }
+        ensures counts { CountsBack script.faults self.old.scripts.faults self.new.scripts.faults }
         ensures links { self.new.links ≡ self.old.links }
         ensures calls { (self.new.calls ≡ self.old.calls) × (self.new.failing ≡ self.old.failing) }
     {
@@ -107,6 +108,8 @@ impl Dock for MemDock {
         requires { 1 ≤ self.old.links.out }
         ensures back { Returns self.old.links (link.source.faults + link.sink.faults) link self.new.links }
         ensures places { Placed self.old.links place self.new.links }
+        ensures counts { CountsBack (link.source.faults + link.sink.faults)
+            self.old.links.faults self.new.links.faults }
         ensures scripts { self.new.scripts ≡ self.old.scripts }
         ensures calls { (self.new.calls ≡ self.old.calls) × (self.new.failing ≡ self.old.failing) }
     {

@@ -1,4 +1,4 @@
-ghost use Rattle.std.specs.Prelude.{◌≡◌, ◌+◌, ◌<◌, ◌≤◌, ◌↔◌, Some, IfOk, IfSome, IsErr, Contains, All, [], length};
+ghost use Rattle.std.specs.Prelude.{◌≡◌, ◌+◌, ◌<◌, ◌≤◌, ◌↔◌, Some, IfOk, IfSome, IsErr, Contains, All, [], length, drop};
 ghost use Rattle.std.specs.Io.{ReadsAtMost};
 ghost use Rattle.std.specs.Io.KnownBytes.{ReadConsumes, WriteAppends, Keeps};
 ghost use Rattle.dpe_io.specs.Causes.{HasCause, CountsOne, one_more};
@@ -28,7 +28,7 @@ impl Model for MemConn {
 }
 
 impl MemConn {
-    /// What is read comes from the source, and what is written goes to the sink.
+    /// What is read comes from the source, and what is written goes to the sink. It takes no memory.
     pub fn new(source: MemSource, sink: MemSink) -> MemConn
         ensures { result ≡ record { source = source; sink = sink } }
     {
@@ -63,6 +63,8 @@ impl Source for MemConn {
         ensures cause { HasCause self.old.source.faults self.new.source.faults result }
         ensures beside { self.new.sink ≡ self.old.sink }
         ensures exact { IsRead self.old.source self.new.source (length room.old) result }
+        ensures rest { IfOk result (λ count. drop count room.new ≡ drop count room.old) }
+        ensures untouched { IsErr result → room.new ≡ room.old }
     {
         self.source.read(room)
     }
@@ -137,7 +139,8 @@ impl Model for MemDoor {
 }
 
 impl MemDoor {
-    /// A door at which these connections wait. The calls of `next` whose numbers `failing` lists fail, counted from 0.
+    /// A door at which these connections wait. The calls of `next` whose numbers `failing` lists fail, counted from 0. It
+    /// may answer want of memory.
     pub fn new(alloc: Global, waiting: Vec<MemConn>, failing: &[u32]) -> Result<MemDoor, AllocError>
         requires { All IsFaultless waiting.items }
         ensures { IfOk result (λ door. door ≡ record {
@@ -168,7 +171,7 @@ impl MemDoor {
         &self.ended
     }
 
-    /// How many calls of `next` failed.
+    /// How many calls of `next` failed; the count stops at 2^64 - 1.
     pub fn faults(&self) -> u64
         ensures { result ≡ self.now.faults }
     {

@@ -42,7 +42,8 @@ impl Model for MemEntropy {
 }
 
 impl MemEntropy {
-    /// An entropy of these words. The draws whose numbers `failing` lists fail, counted from 0.
+    /// An entropy of these words. The draws whose numbers `failing` lists fail, counted from 0. It may answer want of
+    /// memory.
     pub fn new(alloc: Global, words: &[[u8; 32]], failing: &[u32]) -> Result<MemEntropy, AllocError>
         ensures { IfOk result (λ entropy. entropy ≡ record {
           words = words.now;
@@ -59,7 +60,7 @@ impl MemEntropy {
         })
     }
 
-    /// How many draws failed.
+    /// How many draws failed; the count stops at 2^64 - 1.
     pub fn faults(&self) -> u64
         ensures { result ≡ self.now.faults }
     {
@@ -80,6 +81,7 @@ impl Entropy for MemEntropy {
         ensures calls { self.new.calls ≡ one_more self.old.calls }
         ensures faults { CountsOne self.old.faults self.new.faults result }
         ensures stays { self.new.failing ≡ self.old.failing }
+        ensures untouched { IsErr result → room.new ≡ room.old }
     {
         if call_fails(&self.failing, &mut self.calls) {
             self.faults = self.faults.saturating_add(1);
@@ -105,7 +107,7 @@ impl Model for SureEntropy {
 }
 
 impl SureEntropy {
-    /// An entropy of these words.
+    /// An entropy of these words. It may answer want of memory.
     pub fn new(alloc: Global, words: &[[u8; 32]]) -> Result<SureEntropy, AllocError>
         ensures { IfOk result (λ entropy. entropy ≡ words.now) }
     {

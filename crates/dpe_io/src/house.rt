@@ -1,7 +1,7 @@
 ghost use Rattle.std.specs.Prelude.{◌≡◌, ℕ, ◌+◌, ◌≤◌, Some, IfOk, IfSome, IsSomeAnd, All, [], ◌∷◌, slice_get};
 ghost use Rattle.std.specs.Option.{option_copied};
 ghost use Rattle.dpe_io.specs.Causes.{one_more};
-ghost use Rattle.dpe_io.specs.Memory.{IsUnused, OpensAt};
+ghost use Rattle.dpe_io.specs.Memory.{CountsBack, IsUnused, OpensAt};
 ghost use Rattle.dpe_io.specs.Told.{all_unopened, IsOpening, Returns, Placed, KeepsPlaces};
 
 use crate::doors::MemDoor;
@@ -41,7 +41,7 @@ impl Model for MemHouse {
 
 impl MemHouse {
     /// A house of these objects. The openings whose numbers `failing` lists fail, those of all kinds counted together
-    /// from 0.
+    /// from 0. It may answer want of memory.
     pub fn new(
         alloc: Global,
         seed: MemSource,
@@ -171,6 +171,7 @@ impl House for MemHouse {
         requires { 1 ≤ self.old.seeds.out }
         ensures back { Returns self.old.seeds seed.faults seed self.new.seeds }
         ensures places { KeepsPlaces self.old.seeds self.new.seeds }
+        ensures counts { CountsBack seed.faults self.old.seeds.faults self.new.seeds.faults }
         ensures journals { self.new.journals ≡ self.old.journals }
         ensures entropies { self.new.entropies ≡ self.old.entropies }
         ensures doors { self.new.doors ≡ self.old.doors }
@@ -183,6 +184,7 @@ impl House for MemHouse {
         requires { 1 ≤ self.old.entropies.out }
         ensures back { Returns self.old.entropies entropy.faults entropy self.new.entropies }
         ensures places { Placed self.old.entropies place self.new.entropies }
+        ensures counts { CountsBack entropy.faults self.old.entropies.faults self.new.entropies.faults }
         ensures seeds { self.new.seeds ≡ self.old.seeds }
         ensures journals { self.new.journals ≡ self.old.journals }
         ensures doors { self.new.doors ≡ self.old.doors }
@@ -195,6 +197,7 @@ impl House for MemHouse {
         requires { 1 ≤ self.old.doors.out }
         ensures back { Returns self.old.doors door.faults door self.new.doors }
         ensures places { Placed self.old.doors place self.new.doors }
+        ensures counts { CountsBack door.faults self.old.doors.faults self.new.doors.faults }
         ensures seeds { self.new.seeds ≡ self.old.seeds }
         ensures journals { self.new.journals ≡ self.old.journals }
         ensures entropies { self.new.entropies ≡ self.old.entropies }
@@ -207,6 +210,7 @@ impl House for MemHouse {
         requires { 1 ≤ self.old.journals.out }
         ensures back { Returns self.old.journals journal.faults journal self.new.journals }
         ensures places { KeepsPlaces self.old.journals self.new.journals }
+        ensures counts { CountsBack journal.faults self.old.journals.faults self.new.journals.faults }
         ensures seeds { self.new.seeds ≡ self.old.seeds }
         ensures entropies { self.new.entropies ≡ self.old.entropies }
         ensures doors { self.new.doors ≡ self.old.doors }

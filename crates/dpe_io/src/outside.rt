@@ -19,7 +19,10 @@ pub trait Entropy {
     // how often a call has failed
     ghost faults: { Self → ℕ };
 
-    /// Fills the room with the next 32 bytes. After an `Err` no word was taken.
+    /// Fills the room with the next 32 bytes.
+    ///
+    /// Answers `Failed` only where the count of faults rose in the call. Then no word that is told was taken, and the room
+    /// may hold anything.
     fn draw(&mut self, room: &mut [u8; 32]) -> Result<(), Failed>
         ensures words { MatchResult result (λ _. Draws (words self.old) (words self.new) room.new)
             (λ _. words self.new ≡ words self.old) }
@@ -37,7 +40,10 @@ pub trait Door {
     // how many connections are out
     ghost out: { Self → ℕ };
 
-    /// The next connection, whose counts are 0. `None` comes where none waits for good, which a real door never answers.
+    /// The next connection, whose counts are 0. `None` comes where none waits for good, and only from a door that tells
+    /// its connections: one that doesn't, as a real door, never answers it.
+    ///
+    /// Answers `Failed` only where the count of faults rose in the call. Then no connection went out.
     fn next(&mut self) -> Result<Option<Self::Conn>, Failed>
         ensures gives { GivesNext (lists self.old) (lists self.new) result }
         ensures faultless { IfOk result (λ given. IfSome given (λ conn.
@@ -54,7 +60,8 @@ pub trait Door {
 }
 
 /// What a server is given: a seed, a journal, entropies and doors. Each object that was opened is handed back by the
-/// call of its kind. A place counts the objects of its kind that were opened, from 0.
+/// call of its kind. A place counts the objects of its kind that were opened, from 0. An opening answers `Failed` only
+/// where the count of failed openings of its kind rose.
 pub trait House {
     type Seed: Source;
 
@@ -144,7 +151,7 @@ pub trait House {
         ensures doors { doors self.new ≡ doors self.old };
 }
 
-/// What an auditor is given: files.
+/// What an auditor is given: files. An opening answers `Failed` only where the count of failed openings rose.
 pub trait Shelf {
     type File: Source;
 
@@ -163,7 +170,8 @@ pub trait Shelf {
         ensures places { Placed (files self.old) place (files self.new) };
 }
 
-/// What a client is given: a script and links.
+/// What a client is given: a script and links. An opening answers `Failed` only where the count of failed openings of
+/// its kind rose.
 pub trait Dock {
     type File: Source;
 

@@ -1,6 +1,6 @@
 ghost use Rattle.std.specs.Prelude.{◌≡◌, ℕ, ◌+◌, ◌≤◌, IfOk, All};
 ghost use Rattle.dpe_io.specs.Causes.{one_more};
-ghost use Rattle.dpe_io.specs.Memory.{OpensAt};
+ghost use Rattle.dpe_io.specs.Memory.{CountsBack, OpensAt};
 ghost use Rattle.dpe_io.specs.Told.{all_unopened, IsOpening, Returns, Placed};
 
 use crate::memory::{MemSource, call_fails};
@@ -27,7 +27,8 @@ impl Model for MemShelf {
 }
 
 impl MemShelf {
-    /// A shelf of these files. The openings whose numbers `failing` lists fail, counted from 0.
+    /// A shelf of these files. The openings whose numbers `failing` lists fail, counted from 0. It may answer
+    /// want of memory.
     pub fn new(
         alloc: Global,
         files: Vec<MemSource>,
@@ -67,6 +68,7 @@ impl Shelf for MemShelf {
         requires { 1 ≤ self.old.files.out }
         ensures back { Returns self.old.files file.faults file self.new.files }
         ensures places { Placed self.old.files place self.new.files }
+        ensures counts { CountsBack file.faults self.old.files.faults self.new.files.faults }
         ensures calls { (self.new.calls ≡ self.old.calls) × (self.new.failing ≡ self.old.failing) }
     {
         self.files.take_back_at(place, file)

@@ -1,6 +1,6 @@
 ghost use Rattle.std.specs.Prelude.{◌≡◌, ℕ, ◌+◌, ◌≤◌, ◌<◌, ◌↔◌, ◌⊎◌, Some, IfOk, IsErr, IsTrue, All, [], ◌∷◌};
 ghost use Rattle.dpe_io.specs.Causes.{CountsOne};
-ghost use Rattle.dpe_io.specs.Memory.{IsFaultless, IsUnused};
+ghost use Rattle.dpe_io.specs.Memory.{CountsBack, IsFaultless, IsUnused};
 ghost use Rattle.dpe_io.specs.Told.{all_unopened, IsOpening, Returns, Placed, KeepsPlaces};
 
 use crate::doors::{MemConn, MemDoor};
@@ -21,6 +21,16 @@ pub(crate) trait Counted {
     /// Whether no call on it failed.
     fn is_faultless(&self) -> bool
         ensures { IsTrue result ↔ (count self.now ≡ 0) };
+}
+
+// The count of faults of the objects handed back, once this one is.
+fn count_back<T: Counted>(object: &T, faults: u64) -> u64
+    ensures { CountsBack (T.count object.now) faults result }
+{
+    if object.is_faultless() {
+        return faults;
+    }
+    faults.saturating_add(1)
 }
 
 /// Objects of one kind: those that are yet to be opened, and those that were handed back with their places.
@@ -59,7 +69,7 @@ impl<T: Counted> Model for Stock<T> {
 }
 
 impl<T: Counted + Drop> Stock<T> {
-    /// Takes all the room that it will need.
+    /// Takes all the room that it will need. It may answer want of memory.
     pub(crate) fn new(alloc: Global, objects: Vec<T>) -> Result<Stock<T>, AllocError>
         requires { All T.is_new objects.items }
         ensures { IfOk result (λ stock. stock ≡ all_unopened objects.items) }
@@ -77,7 +87,7 @@ impl<T: Counted + Drop> Stock<T> {
         })
     }
 
-    /// A stock of one object.
+    /// A stock of one object. It may answer want of memory.
     pub(crate) fn of_one(alloc: Global, object: T) -> Result<Stock<T>, AllocError>
         requires { T.is_new object }
         ensures { IfOk result (λ stock. stock ≡ all_unopened (object ∷ [])) }
@@ -116,10 +126,9 @@ impl<T: Counted + Drop> Stock<T> {
         requires { 1 ≤ self.old.out }
         ensures back { Returns self.old (T.count object) object self.new }
         ensures places { KeepsPlaces self.old self.new }
+        ensures counts { CountsBack (T.count object) self.old.faults self.new.faults }
     {
-        if !object.is_faultless() {
-            self.faults = self.faults.saturating_add(1);
-        }
+        self.faults = count_back(&object, self.faults);
         self.out -= 1;
         self.back.push_reserved(object);
     }
@@ -129,10 +138,9 @@ impl<T: Counted + Drop> Stock<T> {
         requires { 1 ≤ self.old.out }
         ensures back { Returns self.old (T.count object) object self.new }
         ensures places { Placed self.old place self.new }
+        ensures counts { CountsBack (T.count object) self.old.faults self.new.faults }
     {
-        if !object.is_faultless() {
-            self.faults = self.faults.saturating_add(1);
-        }
+        self.faults = count_back(&object, self.faults);
         self.out -= 1;
         self.back.push_reserved(object);
         self.places.push_reserved(place);

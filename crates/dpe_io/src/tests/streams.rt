@@ -101,11 +101,12 @@ fn adapters_hand_on_what_std_answers(rt: HostRuntime) -> Result<(), Fail> {
 #[test]
 fn adapters_answer_failed_at_any_error_and_at_no_progress(rt: HostRuntime) {
     let mut room = [0; 4];
-    assert_eq!(rt;
-        read_once(&mut ReadSource::new(Interrupted), &mut room),
-        Err(Failed)
-    );
+    let mut source = ReadSource::new(Interrupted);
+    assert_eq!(rt; read_once(&mut source, &mut room), Err(Failed));
+    assert_eq!(rt; source.read(&mut room), Err(Failed));
+    assert_eq!(rt; source.faults(), 2);
     let mut sink = WriteSink::new(Stuck);
     assert_eq!(rt; write_once(&mut sink, &[1]), (Err(Failed), Err(Failed)));
     assert_eq!(rt; write_once(&mut sink, &[]), (Ok(0), Err(Failed)));
+    assert_eq!(rt; sink.faults(), 3);
 }
