@@ -1,7 +1,7 @@
 -- What opening gives, and what its answers say.
 use Rattle.std.proofs.Common.{◌≡◌, ◌≢◌, ℕ, ◌+◌, ◌-◌, ◌%◌, ◌^◌, ◌≤◌, ◌<◌, Bool, true, false, ◌&&◌, cond, List, [], length, take, drop, refl, sym, ap, ◌∙◌, arith, Result, Ok, Err, nat_eq}
 use Rattle.std.proofs.lemmas.Bool.{eqb-true}
-use Rattle.std.proofs.lemmas.List.{length-take}
+use Rattle.std.proofs.lemmas.List.{length-take, drop-drop}
 use Rattle.std.proofs.Math.Nat.{div-eq_of_lt}
 use Rattle.std.proofs.Math.Pow.{pow_mono}
 use Rattle.dpe_box.specs.declared.policy.Policy.{Policy}
@@ -105,6 +105,7 @@ unseals_malformed o locality mode old e = record {
   policy_refused = ((λ h. absurd (apart (Err unopened.Malformed) (Err unopened.PolicyRefused) 1 3 refl refl (differ 1 3 (omega arith)) h)), (λ h. absurd (mal_not_opened h.0 h.1 (sym e ∙ h.2))));
   unsealed = tt;
   unchanged = refl;
+  rest = tt;
 }
 
 unseals_refused : (o : Opening) (locality mode : ℕ) (old : List ℕ) → o ≡ refused → Unseals (Err unopened.Refused) o locality mode old old
@@ -114,6 +115,7 @@ unseals_refused o locality mode old e = record {
   policy_refused = ((λ h. absurd (apart (Err unopened.Refused) (Err unopened.PolicyRefused) 2 3 refl refl (differ 2 3 (omega arith)) h)), (λ h. absurd (ref_not_opened h.0 h.1 (sym e ∙ h.2))));
   unsealed = tt;
   unchanged = refl;
+  rest = tt;
 }
 
 unseals_barred : (o : Opening) (masks : Policy) (text : List ℕ) (locality mode : ℕ) (old : List ℕ) → o ≡ opened_as masks text → admits masks locality mode ≡ false → Unseals (Err unopened.PolicyRefused) o locality mode old old
@@ -123,10 +125,12 @@ unseals_barred o masks text locality mode old e barred = record {
   policy_refused = ((λ _. (masks, text, e, barred)), (λ _. refl));
   unsealed = tt;
   unchanged = refl;
+  rest = tt;
 }
 
-unseals_data : (o : Opening) (masks : Policy) (n locality mode : ℕ) (old new : List ℕ) → n ≤ 2048 → o ≡ opened_as masks (take n new) → admits masks locality mode ≡ true → Unseals (Ok n) o locality mode old new
-unseals_data o masks n locality mode old new le e admitted = record {
+unseals_data : (o : Opening) (masks : Policy) (n locality mode : ℕ) (old new : List ℕ) → n ≤ 2048 → o ≡ opened_as masks (take n new) → admits masks locality mode ≡ true
+    → drop n new ≡ drop n old → Unseals (Ok n) o locality mode old new
+unseals_data o masks n locality mode old new le e admitted rest = record {
   malformed = ((λ h. absurd (apart (Ok n) (Err unopened.Malformed) 0 1 refl refl (differ 0 1 (omega arith)) h)), (λ h. absurd (mal_not_opened masks (take n new) (sym h ∙ e))));
   refused = ((λ h. absurd (apart (Ok n) (Err unopened.Refused) 0 2 refl refl (differ 0 2 (omega arith)) h)), (λ h. absurd (ref_not_opened masks (take n new) (sym h ∙ e))));
   policy_refused = (
@@ -135,6 +139,7 @@ unseals_data o masks n locality mode old new le e admitted = record {
   );
   unsealed = (le, (masks, e, admitted));
   unchanged = tt;
+  rest = rest;
 }
 
 pub unseals-error : (e : NotOpened) (cdi label b : List ℕ) (locality mode : ℕ) (old : List ℕ) → Authenticates (Err e) cdi label b → Unseals (Err (unopened_of e)) (opened cdi label b) locality mode old old
@@ -156,9 +161,10 @@ data_is found cdi label b text known is_text =
     ∙ ap (opened_as found.policy) (sym is_text)
 
 pub unseals-data : (found : Authentic) (cdi label b : List ℕ) (n locality mode : ℕ) (old new : List ℕ) → Authenticates (Ok found) cdi label b → admits found.policy locality mode ≡ true
-    → n ≤ 2048 → take n new ≡ ciphered found.key (ciphertext_of b) → Unseals (Ok n) (opened cdi label b) locality mode old new
-unseals-data found cdi label b n locality mode old new known admitted le is_text =
-    unseals_data (opened cdi label b) found.policy n locality mode old new le (data_is found cdi label b (take n new) known is_text) admitted
+    → n ≤ 2048 → take n new ≡ ciphered found.key (ciphertext_of b) → drop n new ≡ drop n old
+    → Unseals (Ok n) (opened cdi label b) locality mode old new
+unseals-data found cdi label b n locality mode old new known admitted le is_text rest =
+    unseals_data (opened cdi label b) found.policy n locality mode old new le (data_is found cdi label b (take n new) known is_text) admitted rest
 
 -- ---- the answers of opening
 
@@ -170,6 +176,7 @@ opens-error not_opened.Malformed cdi label b old form =
       refused = ((λ h. absurd (opened_apart (Err not_opened.Malformed) (Err not_opened.Refused) 1 2 refl refl (differ 1 2 (omega arith)) h)), (λ h. absurd (mal_not_ref (sym e ∙ h))));
       opens = tt;
       unchanged = refl;
+      rest = tt;
     }
 opens-error not_opened.Refused cdi label b old found =
     let e = opened-refused cdi label b found.0 found.1 in
@@ -178,11 +185,12 @@ opens-error not_opened.Refused cdi label b old found =
       refused = ((λ _. e), (λ _. refl));
       opens = tt;
       unchanged = refl;
+      rest = tt;
     }
 
 pub opens-data : (found : Authentic) (cdi label b : List ℕ) (n : ℕ) (old new : List ℕ) → Authenticates (Ok found) cdi label b → n ≤ 2048 → take n new ≡ ciphered found.key (ciphertext_of b)
-    → Opens (Ok (record { len = n; policy = found.policy })) (opened cdi label b) old new
-opens-data found cdi label b n old new known le is_text =
+    → drop n new ≡ drop n old → Opens (Ok (record { len = n; policy = found.policy })) (opened cdi label b) old new
+opens-data found cdi label b n old new known le is_text rest =
     let e = data_is found cdi label b (take n new) known is_text in
     let r : Result Opened NotOpened = Ok (record { len = n; policy = found.policy }) in
     record {
@@ -190,6 +198,7 @@ opens-data found cdi label b n old new known le is_text =
       refused = ((λ h. absurd (opened_apart r (Err not_opened.Refused) 0 2 refl refl (differ 0 2 (omega arith)) h)), (λ h. absurd (ref_not_opened found.policy (take n new) (sym h ∙ e))));
       opens = (le, e);
       unchanged = tt;
+      rest = rest;
     }
 
 -- ---- what was sealed comes out
@@ -236,3 +245,9 @@ pub middle_fits : (b : List ℕ) → has_form b ≡ true → length (ciphertext_
 middle_fits b form =
     let fits : length_of b ≤ 2048 = grind arith in
     omega (arith, fits, length-take (length_of b) (drop 21 b))
+
+-- what is the same from one place on is the same from a later one on
+pub later : (m n : ℕ) (xs ys : List ℕ) → drop m xs ≡ drop m ys → m ≤ n → drop n xs ≡ drop n ys
+later m n xs ys e le =
+    let sum : m + (n - m) ≡ n = omega arith in
+    ap (λ (k : ℕ). drop k xs) (sym sum) ∙ sym (drop-drop (n - m) m xs) ∙ ap (drop (n - m)) e ∙ drop-drop (n - m) m ys ∙ ap (λ (k : ℕ). drop k ys) sum

@@ -23,7 +23,7 @@ twice (x ∷ xs) (k ∷ ks) =
     let same : bit_xor (bit_xor x k) k ≡ x = rw (xor_assoc, xor_self, xor_zero_r) refl in
     ap (λ (y : ℕ). y ∷ combined (combined xs ks) ks) same ∙ ap (λ (r : List ℕ). x ∷ r) (twice xs ks)
 
-length-ciphered : (k text : List ℕ) → length (ciphered k text) ≡ length text
+pub length-ciphered : (k text : List ℕ) → length (ciphered k text) ≡ length text
 unfolding ciphered
 length-ciphered k text = length-combined text (key_stream (take 32 k) (replicate 12 0) 0 (length text))
 

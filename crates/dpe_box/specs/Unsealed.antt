@@ -1,5 +1,5 @@
 -- What unsealing and opening answer.
-use Rattle.std.specs.Prelude.{◌≡◌, ◌↔◌, ◌≤◌, ℕ, true, false, List, take, Result, Ok, Err, IsErrOf, OnErr, IfOk}
+use Rattle.std.specs.Prelude.{◌≡◌, ◌↔◌, ◌≤◌, ℕ, true, false, List, take, drop, Result, Ok, Err, IsErrOf, OnErr, IfOk}
 use Rattle.dpe_box.specs.declared.policy.Policy.{Policy}
 use Rattle.dpe_box.specs.declared.sealing.Authentic.{Authentic}
 use Rattle.dpe_box.specs.declared.policy.Opened.{Opened}
@@ -24,6 +24,7 @@ pub record Unseals (result : Result ℕ Unopened) (o : Opening) (locality mode :
   pub policy_refused : IsErrOf result unopened.PolicyRefused ↔ IsBarred o locality mode
   pub unsealed : IfOk result (λ n. (n ≤ 2048) × IsAdmitted o locality mode (take n new))
   pub unchanged : OnErr result (new ≡ old)
+  pub rest : IfOk result (λ n. drop n new ≡ drop n old)
 
 -- An answer of opening, whoever asks.
 pub record Opens (result : Result Opened NotOpened) (o : Opening) (old new : List ℕ) : Type 0 where
@@ -31,6 +32,7 @@ pub record Opens (result : Result Opened NotOpened) (o : Opening) (old new : Lis
   pub refused : IsErrOf result not_opened.Refused ↔ (o ≡ refused)
   pub opens : IfOk result (λ found. (found.len ≤ 2048) × (o ≡ opened_as found.policy (take found.len new)))
   pub unchanged : OnErr result (new ≡ old)
+  pub rest : IfOk result (λ found. drop found.len new ≡ drop found.len old)
 
 -- What the tests of form and tag found: the keys and the masks of a box, or why there are none.
 abbrev pub Authenticates : Result Authentic NotOpened → List ℕ → List ℕ → List ℕ → Type 0

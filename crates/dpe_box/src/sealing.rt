@@ -1,4 +1,4 @@
-ghost use Rattle.std.specs.Prelude.{◌≡◌, ◌≤◌, ◌<◌, ◌+◌, ◌++◌, length, take, true};
+ghost use Rattle.std.specs.Prelude.{◌≡◌, ◌≤◌, ◌<◌, ◌+◌, ◌++◌, length, take, drop, true};
 ghost use Rattle.std.specs.Str.{bytes_eq};
 ghost use Rattle.dpe_box.specs.Sealed.{keys as keys_for, ciphered, tag as tag_for, sealed_box, has_form as has_form_of, opened, admits as admits_of, has_bit as has_bit_of, masks_of, ciphertext_of, keys_of, before_tag, tag_of};
 ghost use Rattle.dpe_box.specs.Laws.{OpensAsSealed, UnsealsAsSealed};
@@ -58,7 +58,8 @@ fn tag(key: &[u8; 96], front: &[u8]) -> [u8; 64]
 // Writes a piece at a place.
 fn put(room: &mut [u8], at: usize, piece: &[u8])
     requires { at + length piece.now ≤ length room.old }
-    ensures { take (at + length piece.now) room.new ≡ take at room.old ++ piece.now }
+    ensures front { take (at + length piece.now) room.new ≡ take at room.old ++ piece.now }
+    ensures rest { drop (at + length piece.now) room.new ≡ drop (at + length piece.now) room.old }
 {
     room[at..at + piece.len()].copy_from_slice(piece);
 }
@@ -67,7 +68,8 @@ fn put(room: &mut [u8], at: usize, piece: &[u8])
 fn put_ciphered(key: &[u8; 96], room: &mut [u8], at: usize, text: &[u8])
     requires room { at + length text.now ≤ length room.old }
     requires text { length text.now ≤ 2048 }
-    ensures { take (at + length text.now) room.new ≡ take at room.old ++ ciphered key.now text.now }
+    ensures front { take (at + length text.now) room.new ≡ take at room.old ++ ciphered key.now text.now }
+    ensures rest { drop (at + length text.now) room.new ≡ drop (at + length text.now) room.old }
 {
     let part = &mut room[at..at + text.len()];
     part.copy_from_slice(text);
@@ -90,6 +92,7 @@ pub fn seal(
     requires plain { length plain.now ≤ 2048 }
     ensures len { result ≡ 85 + length plain.now }
     ensures written { take result out.new ≡ sealed_box cdi.now label.now policy.now salt.now plain.now }
+    ensures rest { drop result out.new ≡ drop result out.old }
 {
     let key = keys(cdi, label, policy, salt);
     put(out, 0, &[1]);
@@ -174,7 +177,8 @@ fn ciphertext(sealed: &[u8]) -> &[u8]
 // Writes what a ciphertext stands for.
 fn open_into(key: &[u8; 96], text: &[u8], out: &mut [u8; 2048])
     requires { length text.now ≤ 2048 }
-    ensures { take (length text.now) out.new ≡ ciphered key.now text.now }
+    ensures text { take (length text.now) out.new ≡ ciphered key.now text.now }
+    ensures rest { drop (length text.now) out.new ≡ drop (length text.now) out.old }
 {
     let plain = &mut out[..text.len()];
     plain.copy_from_slice(text);

@@ -55,18 +55,56 @@ fn two_layers_fold_into_their_cdis(rt: HostRuntime) -> Result<(), Fail> {
     Ok(())
 }
 
+// How many empty layers, and the CDIs that they fold into, computed by another program.
+const EMPTY_LAYERS: [(u8, &str, &str); 3] = [
+    (
+        1,
+        "fbfc679771342eeacb908659ce49d6b63b4535da2c51433d7f04efa6319e0c19",
+        "8ff8b22571325e7defefbfea8df1c9f34bf4d9ee03b75b788219c6b1ef49bdc5",
+    ),
+    (
+        16,
+        "a78d216e534bc9dd17f0946b12ebda146bede5d391c92d44854614a9bbd489ec",
+        "d01f5832941098d515631f0ed0550699bcba1f6ce5eb7aab591dced0009774be",
+    ),
+    (
+        32,
+        "941ca99eec8961895af23fe20994d523ed1480c187fdf88ec74a93f9ba324802",
+        "16202ef5caf6f9b2cb9dc1f7ba7a8298b93b4dc61884ab680dd2ed0d59985713",
+    ),
+];
+
 #[test]
-fn sixteen_empty_layers_fold_into_their_cdis(rt: HostRuntime) -> Result<(), Fail> {
+fn empty_layers_fold_into_their_cdis(rt: HostRuntime) -> Result<(), Fail> {
     let mut meter = Count::new();
     let mut cdis = first(&[0; 32]);
-    for _ in 0..16 {
-        cdis = next(&cdis, &NO_INPUT, &mut meter);
+    let mut folded = 0;
+    for (layers, attest, seal) in EMPTY_LAYERS {
+        for _ in folded..layers {
+            cdis = next(&cdis, &NO_INPUT, &mut meter);
+        }
+        folded = layers;
+        assert_eq!(rt; hex::encode(rt.alloc(), cdis.attest)?.as_str(), attest);
+        assert_eq!(rt; hex::encode(rt.alloc(), cdis.seal)?.as_str(), seal);
     }
-    let attest = "a78d216e534bc9dd17f0946b12ebda146bede5d391c92d44854614a9bbd489ec";
-    assert_eq!(rt; hex::encode(rt.alloc(), cdis.attest)?.as_str(), attest);
-    let seal = "d01f5832941098d515631f0ed0550699bcba1f6ce5eb7aab591dced0009774be";
+    assert_eq!(rt; meter.folds(), 32);
+    Ok(())
+}
+
+#[test]
+fn a_layer_with_other_code_and_configuration_keeps_the_sealing_cdi(
+    rt: HostRuntime,
+) -> Result<(), Fail> {
+    let mut meter = Count::new();
+    let updated = Input {
+        authority: FIRST_LAYER.authority,
+        ..SECOND_LAYER
+    };
+    let cdis = next(&first(&[0; 32]), &updated, &mut meter);
+    let seal = "5ce9b37ac42225c8bf9167636c8be6162a0d9d068a5c5492edda1d2e471cbd10";
     assert_eq!(rt; hex::encode(rt.alloc(), cdis.seal)?.as_str(), seal);
-    assert_eq!(rt; meter.folds(), 16);
+    let attest = "e1e86b1b132b8b3fd95aa4eacc24703c0436b18d8068d6d41df2f76ad4712255";
+    assert_eq!(rt; hex::encode(rt.alloc(), cdis.attest)?.as_str(), attest);
     Ok(())
 }
 

@@ -12,7 +12,7 @@ returns-then-not-admits c =
 pub returns-else-not-admits : goal.returns-else-not-admits
 returns-else-not-admits c =
     unseals-data c.in-Ok.found c.args.cdi.now c.args.label.now c.args.sealed.now (length c.ciphertext-text.result.now) c.args.locality c.args.mode c.args.out.now c.open_into.new.out c.in-Ok.ensures
-    (sym c.admits.ensures ∙ c.if-not-admits.false) c.ciphertext-text.ensures.bound (c.open_into.ensures ∙ ap (ciphered c.in-Ok.found.key) c.ciphertext-text.ensures.text)
+    (sym c.admits.ensures ∙ c.if-not-admits.false) c.ciphertext-text.ensures.bound (c.open_into.ensures.text ∙ ap (ciphered c.in-Ok.found.key) c.ciphertext-text.ensures.text) c.open_into.ensures.rest
 
 pub returns-in-Err : goal.returns-in-Err
 returns-in-Err c =
