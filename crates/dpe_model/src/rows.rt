@@ -1,0 +1,103 @@
+ghost use Rattle.std.specs.Prelude.{◌≡◌, ◌++◌, ◌∷◌, [], Option, find, IfOk};
+ghost use Rattle.std.specs.List.{starts_with};
+ghost use Rattle.std.specs.Option.{option_map};
+ghost use Rattle.std.specs.Str.{bytes_eq};
+ghost use Rattle.dpe_model.specs.Step.{renamed, taken_out as without_row, family_out as without_family, same_birth};
+ghost use Rattle.dpe_model.specs.Plain.{row_of, rows_of};
+
+use crate::lineage::Birth;
+use std::alloc::{AllocError, Global};
+
+/// A live context, with its whole lineage.
+#[derive(Drop)]
+pub struct PlainRow {
+    pub handle: [u8; 16],
+    pub locality: u8,
+    pub may_derive: bool,
+    pub lineage: Vec<Birth>,
+}
+
+fn has_handle(row: &PlainRow, handle: &[u8; 16]) -> bool
+    ensures { result ≡ bytes_eq row.now.handle handle.now }
+{
+    row.handle.as_slice() == handle.as_slice()
+}
+
+/// The row with this handle.
+pub fn find_row<'a>(rows: &'a [PlainRow], handle: &[u8; 16]) -> Option<&'a PlainRow>
+    ensures { option_map (λ r. row_of r.now) result ≡ find (λ row. bytes_eq row.handle handle.now) (rows_of rows.now) }
+{
+    for row in rows {
+        if has_handle(row, handle) {
+            return Some(row);
+        }
+    }
+    None
+}
+
+/// The row under another handle.
+pub fn under_handle(
+    alloc: Global,
+    row: &PlainRow,
+    handle: &[u8; 16],
+) -> Result<PlainRow, AllocError>
+    ensures { IfOk result (λ r. row_of r ≡ renamed (row_of row.now) handle.now) }
+{
+    Ok(PlainRow {
+        handle: *handle,
+        locality: row.locality,
+        may_derive: row.may_derive,
+        lineage: Vec::from_slice(alloc, &row.lineage)?,
+    })
+}
+
+/// The rows as they are.
+pub fn copied(alloc: Global, rows: &[PlainRow]) -> Result<Vec<PlainRow>, AllocError>
+    ensures { IfOk result (λ copy. rows_of copy.items ≡ rows_of rows.now) }
+{
+    let mut copy = Vec::new(alloc);
+    for row in rows {
+        copy.push(under_handle(alloc, row, &row.handle)?)?;
+    }
+    Ok(copy)
+}
+
+/// The rows without this one.
+pub fn taken_out(
+    alloc: Global,
+    row: &PlainRow,
+    rows: &[PlainRow],
+) -> Result<Vec<PlainRow>, AllocError>
+    ensures { IfOk result (λ left. rows_of left.items ≡ without_row (row_of row.now) (rows_of rows.now)) }
+{
+    let mut left = Vec::new(alloc);
+    for other in rows {
+        if !has_handle(other, &row.handle) {
+            left.push(under_handle(alloc, other, &other.handle)?)?;
+        }
+    }
+    Ok(left)
+}
+
+fn begins_with(lineage: &[Birth], front: &[Birth]) -> bool
+    ensures { result ≡ starts_with same_birth lineage.now front.now }
+{
+    lineage.starts_with(front)
+}
+
+/// The rows without those whose lineage begins with this one's.
+pub fn family_out(
+    alloc: Global,
+    row: &PlainRow,
+    rows: &[PlainRow],
+) -> Result<Vec<PlainRow>, AllocError>
+    ensures { IfOk result (λ left. rows_of left.items ≡ without_family (row_of row.now) (rows_of rows.now)) }
+{
+    let mut left = Vec::new(alloc);
+    for other in rows {
+        if !begins_with(&other.lineage, &row.lineage) {
+            left.push(under_handle(alloc, other, &other.handle)?)?;
+        }
+    }
+    Ok(left)
+}
