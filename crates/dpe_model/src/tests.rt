@@ -254,6 +254,13 @@ fn short_box(payload: &[u8]) -> [u8; 85] {
     sealed
 }
 
+// The box but for its last byte.
+fn cut_short(sealed: &[u8; 85]) -> [u8; 84] {
+    let mut front = [0; 84];
+    front.copy_from_slice(&sealed[..84]);
+    front
+}
+
 // Commands in a row, each with what it shows, its caller's locality and what its reply has to be. The place of
 // the first that is answered otherwise.
 fn first_wrong(
@@ -525,7 +532,8 @@ fn answers_are_computed_from_the_path(rt: HostRuntime) -> Result<(), Fail> {
     let open = short_box(&seal(alloc, &mut plain, 8, true, 255, b"")?);
     let mut turned = open;
     turned[84] ^= 1;
-    let reply = unseal(alloc, &mut plain, 9, &open[..84])?;
+    let cut = cut_short(&open);
+    let reply = unseal(alloc, &mut plain, 9, &cut)?;
     assert_eq!(rt; reply_code(&reply), Some(22));
     let reply = unseal(alloc, &mut plain, 9, &turned)?;
     assert_eq!(rt; reply_code(&reply), Some(23));
