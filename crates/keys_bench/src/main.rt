@@ -1,0 +1,38 @@
+//! Does one keyed operation many times over, by this project's functions or by plain code over the kit's. The words are `ours` or
+//! `straight`, `hmac`, `sign`, `derive` or `seal`, and how many times. What is printed is the same for `ours` and `straight`.
+#![tactic(auto)]
+
+mod inputs;
+mod ours;
+mod straight;
+
+use std::process::ExitCode;
+use std::{env, io};
+
+fn main(rt: HostRuntime) -> io::Result<ExitCode> {
+    let mut words = Vec::new(rt.alloc());
+    for word in env::args(&rt)?.skip(1) {
+        words.push(word)?;
+    }
+    let [side, operation, times] = words.as_slice() else {
+        return Ok(ExitCode::from(2));
+    };
+    let Ok(count) = times.as_str().parse::<u32>() else {
+        return Ok(ExitCode::from(2));
+    };
+    let answer = if side.as_str() == "ours" {
+        ours::repeated(operation.as_str(), count)
+    } else if side.as_str() == "straight" {
+        straight::repeated(operation.as_str(), count)
+    } else {
+        None
+    };
+    let Some(answer) = answer else {
+        return Ok(ExitCode::from(2));
+    };
+    println!(rt; "{}", u64::from_be_bytes(answer))?;
+    Ok(ExitCode::from(0))
+}
+
+#[cfg(test)]
+mod tests;
