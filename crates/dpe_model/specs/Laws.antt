@@ -1,5 +1,5 @@
 -- What holds of each step, and of each legal history.
-use Rattle.std.specs.Prelude.{ℕ, ◌^◌, ◌+◌, ◌<◌, ◌≤◌, ◌≡◌, ◌≢◌, ◌⊎◌, List, [], ◌∷◌, ◌++◌, true, Option, Some, None, AllPairs, Contains, length, option_and_then, ⊤, if◌then◌else◌}
+use Rattle.std.specs.Prelude.{ℕ, ◌^◌, ◌+◌, ◌<◌, ◌≤◌, ◌==◌, ◌≡◌, ◌≢◌, ◌⊎◌, List, [], ◌∷◌, ◌++◌, true, Option, Some, None, AllPairs, Contains, length, filter, option_and_then, ⊤, if◌then◌else◌}
 use Rattle.dpe_inputs.specs.declared.Input.{Input}
 use Rattle.dpe_inputs.specs.Cdi.{attest_cdi, seal_cdi, signature}
 use Rattle.dpe_box.specs.declared.policy.Policy.{Policy}
@@ -9,7 +9,7 @@ use Rattle.dpe_messages.specs.Replies.{made, reply_payload}
 use Rattle.dpe_model.specs.State.{Row, State, Valid, path, mode, last_serial}
 use Rattle.dpe_model.specs.Verdict.{makes, named, used}
 use Rattle.dpe_model.specs.Step.{masks_of, salt_of, step}
-use Rattle.dpe_model.specs.History.{Entry, IsEntry, Legal, state_after, reply_to, reply_code, reply_bytes, request_at, is_accepted, accepted, path_at, seal_path, seal_path_at, issued, all_issued}
+use Rattle.dpe_model.specs.History.{Entry, IsEntry, Legal, state_after, reply_to, reply_code, reply_bytes, request_at, is_accepted, accepted, path_at, seal_path, seal_path_at, issued, all_issued, entries_of_caller, entries_of_connection}
 use Rattle.dpe_model.specs.Codes as code
 
 -- ## Steps and histories
@@ -33,6 +33,14 @@ StepIsLegal =
 -- The state of a legal history is valid, where the first serial has 64 bits.
 abbrev pub StateIsValid : Type 0
 StateIsValid = (seed : List ℕ) (first : ℕ) (H : List Entry) → first < 2 ^ 64 → Legal seed first H → Valid (state_after seed first H)
+
+-- A caller's entries grow by that caller's alone, at the end; a connection's are its caller's over it.
+abbrev pub PartsOfHistories : Type 0
+PartsOfHistories =
+    (H : List Entry) (e : Entry) (caller connection : ℕ) →
+    (entries_of_caller [] caller ≡ [])
+    × (entries_of_caller (H ++ e ∷ []) caller ≡ entries_of_caller H caller ++ (if e.caller == caller then e ∷ [] else []))
+    × (entries_of_connection H caller connection ≡ filter (λ x. x.connection == connection) (entries_of_caller H caller))
 
 -- ## Handles
 

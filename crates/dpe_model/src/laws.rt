@@ -1,6 +1,6 @@
 ghost use Rattle.std.specs.Prelude.{ℕ, List};
 ghost use Rattle.dpe_model.specs.History.{Entry, Legal};
-ghost use Rattle.dpe_model.specs.Laws.{StepKeepsValid, FrontIsLegal, StepIsLegal, StateIsValid, SpentIsSpent, HandlesDiffer, IssuedBefore, Unseals, HandleLaws, FoldedInputs, AcceptsNamed};
+ghost use Rattle.dpe_model.specs.Laws.{StepKeepsValid, FrontIsLegal, StepIsLegal, StateIsValid, SpentIsSpent, HandlesDiffer, IssuedBefore, Unseals, HandleLaws, FoldedInputs, AcceptsNamed, PartsOfHistories};
 
 /// Each step leads from a valid state to a valid state.
 pub fn step_keeps_valid()
@@ -55,4 +55,9 @@ pub fn folded_inputs()
 /// The handle that an entry accepts is the one that its command names.
 pub fn accepted_is_named()
     ensures { (seed : List ℕ) (first : ℕ) (H : List Entry) → Legal seed first H → AcceptsNamed seed first H }
+{}
+
+/// The entries of a caller, and of one of its connections, are parts of the history in its order.
+pub fn parts_of_histories()
+    ensures { PartsOfHistories }
 {}

@@ -1,6 +1,8 @@
 ghost use Rattle.std.specs.Prelude.{◌≡◌, ◌≤◌, length, IfSome};
 ghost use Rattle.dpe_messages.specs.CommandRows.{IsCommandWritable, IsShort};
 
+mod commands;
+
 use crate::plain::Plain;
 use dpe_messages::{
     Asked, Command, Config, Derive, Reply, Seal, Sign, Unseal, read_reply, reply_code,
@@ -17,6 +19,8 @@ const ROOT_SIGNATURE: &str =
 // program.
 const ROOT_BOX: &str =
     "0100000000000000000000000000000000ff0f0000fc3fbb1dba22226899de1ce189c4cecee54f8c7822a773596394bcc0b90ebae24f47b26db5a05728fb323ddc41dd4832e132be94a32eb1cb6d6a7433311ad907";
+
+const CONFIG: [u8; 64] = [0x21; 64];
 
 const AUTHORITY: [u8; 64] = [0x31; 64];
 
@@ -63,10 +67,11 @@ fn wanted(alloc: Global, want: Want) -> Result<String, AllocError> {
     }
 }
 
-// A command on the context of a serial. Its label is empty, a derivation has the mode 1 and, but for an heir, its
-// defaults.
+// A command on the context of a serial. Its label is empty, a derivation has the configuration 0x21, the
+// authority 0x31, the mode 1 and its defaults, where nothing else is said.
 #[derive(Clone, Copy)]
 enum Ask {
+    GetProfile,
     Initialize,
     Derive {
         parent: u64,
@@ -77,7 +82,12 @@ enum Ask {
     Heir {
         parent: u64,
     },
+    // a child of the code 0x11 with the empty descriptor
+    Described {
+        parent: u64,
+    },
     Rotate(u64),
+    Destroy(u64),
     DestroyFamily(u64),
     // no bytes
     Sign {
@@ -110,20 +120,23 @@ fn execute(
 
 fn derivation<'a>(
     parent: &'a [u8; 16],
-    input: &'a [u8; 64],
+    code: &'a [u8; 64],
+    config: Config<'a>,
+    mode: u8,
     retain: bool,
     target: Option<u8>,
 ) -> Derive<'a>
-    ensures mode { result.mode ≡ 1 }
+    requires { IsShort config }
+    ensures mode { result.mode ≡ mode }
     ensures config { IsShort result.config }
     ensures target { result.locality ≡ target }
 {
     Derive {
         handle: parent,
-        code: input,
-        config: Config::Inline(input),
+        code,
+        config,
         authority: &AUTHORITY,
-        mode: 1,
+        mode,
         hidden: None,
         retain,
         may_derive: target.is_none(),
@@ -144,8 +157,50 @@ fn derive(
     requires target { IfSome target (λ t. t ≤ 7) }
 {
     let parent = handle(parent);
-    let input = [code; 64];
-    let command = Command::Derive(derivation(&parent, &input, retain, target));
+    let code = [code; 64];
+    let config = Config::Inline(&CONFIG);
+    let command = Command::Derive(derivation(&parent, &code, config, 1, retain, target));
+    execute(alloc, plain, locality, &command)
+}
+
+// A child of the code 0x11 with the empty descriptor.
+fn describe(
+    alloc: Global,
+    plain: &mut Plain,
+    locality: u8,
+    parent: u64,
+) -> Result<Vec<u8>, AllocError>
+    requires { locality ≤ 7 }
+{
+    let parent = handle(parent);
+    let code = [0x11; 64];
+    let config = Config::Descriptor(b"");
+    let command = Command::Derive(derivation(&parent, &code, config, 1, false, None));
+    execute(alloc, plain, locality, &command)
+}
+
+// A child of the mode 2.
+fn derive_debug(alloc: Global, plain: &mut Plain, parent: u64) -> Result<Vec<u8>, AllocError> {
+    let parent = handle(parent);
+    let code = [0x11; 64];
+    let config = Config::Inline(&CONFIG);
+    let command = Command::Derive(derivation(&parent, &code, config, 2, false, None));
+    execute(alloc, plain, 0, &command)
+}
+
+fn destroy(
+    alloc: Global,
+    plain: &mut Plain,
+    locality: u8,
+    context: u64,
+    recursive: bool,
+) -> Result<Vec<u8>, AllocError>
+    requires { locality ≤ 7 }
+{
+    let command = Command::Destroy {
+        handle: &handle(context),
+        recursive,
+    };
     execute(alloc, plain, locality, &command)
 }
 
@@ -173,16 +228,18 @@ fn seal(
     context: u64,
     retain: bool,
     localities: u8,
+    modes: u8,
     text: &[u8],
 ) -> Result<Vec<u8>, AllocError>
-    requires { length text.now ≤ 2048 }
+    requires text { length text.now ≤ 2048 }
+    requires modes { modes ≤ 15 }
 {
     let command = Command::Seal(Seal {
         handle: &handle(context),
         label: b"",
         retain,
         localities,
-        modes: 15,
+        modes,
         plain: text,
     });
     execute(alloc, plain, 0, &command)
@@ -209,6 +266,7 @@ fn reply_to(alloc: Global, plain: &mut Plain, locality: u8, ask: Ask) -> Result<
     requires { locality ≤ 7 }
 {
     match ask {
+        Ask::GetProfile => execute(alloc, plain, locality, &Command::GetProfile),
         Ask::Initialize => execute(alloc, plain, locality, &Command::Initialize),
         Ask::Derive {
             parent,
@@ -216,22 +274,18 @@ fn reply_to(alloc: Global, plain: &mut Plain, locality: u8, ask: Ask) -> Result<
             retain,
         } => derive(alloc, plain, locality, parent, code, retain, None),
         Ask::Heir { parent } => derive(alloc, plain, locality, parent, 0x12, false, Some(5)),
+        Ask::Described { parent } => describe(alloc, plain, locality, parent),
         Ask::Rotate(context) => {
             execute(alloc, plain, locality, &Command::Rotate(&handle(context)))
         }
-        Ask::DestroyFamily(context) => {
-            let command = Command::Destroy {
-                handle: &handle(context),
-                recursive: true,
-            };
-            execute(alloc, plain, locality, &command)
-        }
+        Ask::Destroy(context) => destroy(alloc, plain, locality, context, false),
+        Ask::DestroyFamily(context) => destroy(alloc, plain, locality, context, true),
         Ask::Sign { context, retain } => sign(alloc, plain, locality, context, retain),
         Ask::Seal {
             context,
             retain,
             localities,
-        } => seal(alloc, plain, context, retain, localities, b""),
+        } => seal(alloc, plain, context, retain, localities, 15, b""),
     }
 }
 
@@ -294,6 +348,12 @@ fn commands_change_the_table_of_contexts(rt: HostRuntime) -> Result<(), Fail> {
             ),
             ("a root", 0, Ask::Initialize, Want::Handle(1)),
             ("no second root", 0, Ask::Initialize, Want::Code(5)),
+            (
+                "the locality comes before the root",
+                1,
+                Ask::Initialize,
+                Want::Code(27),
+            ),
             (
                 "a retained parent",
                 0,
@@ -520,7 +580,7 @@ fn answers_are_computed_from_the_path(rt: HostRuntime) -> Result<(), Fail> {
     assert_eq!(rt; wrong, None);
 
     // the longest box of one child opens in the other, whose path differs in code alone
-    let reply = seal(alloc, &mut plain, 2, true, 255, &[7; 2048])?;
+    let reply = seal(alloc, &mut plain, 2, true, 255, 15, &[7; 2048])?;
     let sealed = made(alloc, &Asked::Seal, &reply)?;
     assert_eq!(rt; sealed.len(), 2133);
     let reply = unseal(alloc, &mut plain, 4, &sealed)?;
@@ -528,8 +588,8 @@ fn answers_are_computed_from_the_path(rt: HostRuntime) -> Result<(), Fail> {
     assert_eq!(rt; text.as_slice(), [7; 2048].as_slice());
 
     // a box that fails spends nothing
-    let kept = short_box(&seal(alloc, &mut plain, 6, true, 254, b"")?);
-    let open = short_box(&seal(alloc, &mut plain, 8, true, 255, b"")?);
+    let kept = short_box(&seal(alloc, &mut plain, 6, true, 254, 15, b"")?);
+    let open = short_box(&seal(alloc, &mut plain, 8, true, 255, 15, b"")?);
     let mut turned = open;
     turned[84] ^= 1;
     let cut = cut_short(&open);
