@@ -5,7 +5,7 @@ use Rattle.std.proofs.lemmas.Str.{IsUtf8-from_is_utf8, is_utf8-from_IsUtf8}
 use Rattle.std.proofs.lemmas.Bool.{ltb-true, ltb-false, lt-ltb, le-ltb, eqb-true}
 use Rattle.std.proofs.lemmas.List.{take_at, drop_at, take-append-drop, get_or-append-add, append-nil, nil_from_length}
 use Rattle.dpe_cbor.specs.Item.{MayFollow, text, bool}
-use Rattle.dpe_cbor.specs.Encoding.{head, simple_value, IsHead, Enc}
+use Rattle.dpe_cbor.specs.Encoding.{head, IsHead, Enc}
 use Rattle.dpe_cbor.specs.Heads.{head_at}
 use Rattle.dpe_cbor.specs.Decoding.{Decoder, ◌>>=◌, AreBytes, IsDecoder, both, whole, argument_of, content_of, text_of, bool_of, key_of, may_follow}
 use Rattle.dpe_cbor.specs.Law.{IsKey}

@@ -1,3 +1,4 @@
+//! Laws of the encoding and of the decoders, for those who reason about them.
 ghost use Rattle.std.specs.Prelude.{ℕ, Option};
 ghost use Rattle.dpe_cbor.specs.Item.{uint, bytes, text, bool};
 ghost use Rattle.dpe_cbor.specs.Encoding.{Enc, IsHead};

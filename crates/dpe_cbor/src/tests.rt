@@ -1,3 +1,4 @@
+//! Items of RFC 8949, appendix A, and encodings that aren't deterministic.
 use crate::{Kind, NoRoom, NotDeterministic, Reader, Writer};
 use std::test::Fail;
 

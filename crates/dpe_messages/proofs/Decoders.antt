@@ -1,10 +1,10 @@
 -- The laws of the decoders of a payload.
 use Rattle.std.proofs.Common.{◌≡◌, ℕ, zero, suc, ◌/◌, ◌^◌, ◌<◌, ◌⊎◌, Bool, true, false, cond, eqb, List, [], ◌∷◌, ◌++◌, length, get_or, Option, Some, None, refl, sym, ap, subst, ◌∙◌, append_assoc, arith, inl, inr}
-use Rattle.std.proofs.lemmas.Bool.{eqb-true, ltb-true, lt-ltb}
+use Rattle.std.proofs.lemmas.Bool.{eqb-true}
 use Rattle.std.proofs.lemmas.List.{append-nil}
 use Rattle.dpe_cbor.specs.Law.{IsKey}
-use Rattle.dpe_cbor.specs.Item.{text, bool, pair_count, ArePairs, KeysRiseAfter, MayFollow}
-use Rattle.dpe_cbor.specs.Encoding.{head, simple_value, pairs_encoding, encoding, IsHead, Enc}
+use Rattle.dpe_cbor.specs.Item.{text, bool, pair_count, ArePairs, KeysRiseAfter}
+use Rattle.dpe_cbor.specs.Encoding.{head, pairs_encoding, encoding, IsHead, Enc}
 use Rattle.dpe_cbor.specs.Decoding.{Decoder, ◌>>=◌, AreBytes, IsDecoder, both, argument_of, content_of, text_of, bool_of, key_of}
 use Rattle.dpe_cbor.proofs.HeadLemmas.{major_of}
 use Rattle.dpe_cbor.proofs.DecoderLemmas.{bind_some, some_is, passed, AreBytes-rest, argument_decoder, content_decoder, text_decoder, bool_decoder, key_decoder, IsString, Both, both_decoder, whole_sound, whole_complete}

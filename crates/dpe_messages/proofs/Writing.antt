@@ -1,5 +1,5 @@
 -- What several writes, one behind the other, append, and where the whole stands in the room.
-use Rattle.std.proofs.Common.{◌≡◌, ℕ, ◌+◌, ◌<◌, List, [], ◌∷◌, ◌++◌, length, take, get_or, Option, Some, None, refl, sym, ap, subst, ◌∙◌, append_assoc, arith, length-append}
+use Rattle.std.proofs.Common.{◌≡◌, ℕ, ◌+◌, ◌<◌, List, [], ◌∷◌, ◌++◌, length, take, get_or, Option, Some, None, refl, sym, ap, subst, ◌∙◌, append_assoc, arith, drop, drop-drop, length-append}
 use Rattle.std.proofs.lemmas.List.{append-nil, take_more}
 use Rattle.std.proofs.lemmas.List.Folds.{length-flat_map-take}
 use Rattle.std.proofs.lemmas.Grind.{flat_map-append}
@@ -19,6 +19,7 @@ Appends-none w = record {
   len_is = omega arith;
   same_room = refl;
   room_len = refl;
+  beyond = refl;
 }
 
 pub Appends-then : (a b d : Writer) (x y : List ℕ) → Appends a b x → Appends b d y → Appends a d (x ++ y)
@@ -27,6 +28,11 @@ Appends-then a b d x y one two = record {
   len_is = omega (arith, one.len_is, two.len_is, length-append x y);
   same_room = two.same_room ∙ one.same_room;
   room_len = two.room_len ∙ one.room_len;
+  beyond =
+      two.beyond
+      ∙ ap (λ (n : ℕ). drop n b.room.now) two.len_is ∙ sym (drop-drop (length y) b.len b.room.now)
+      ∙ ap (drop (length y)) one.beyond
+      ∙ drop-drop (length y) b.len a.room.now ∙ ap (λ (n : ℕ). drop n a.room.now) (sym two.len_is);
 }
 
 -- room for two pieces is room for the first, and then for the second
@@ -48,6 +54,17 @@ pub room_for_row : (a b : Writer) (rows : List (ℕ × Option Found)) (i : ℕ) 
     → Fits a (rows_encoding rows) → Appends a b (rows_encoding (take i rows)) → Fits b (row_encoding (get_or rows i d))
 room_for_row a b rows i d lt room before =
     omega (arith, length-flat_map-take row_encoding rows i d lt, before.len_is, before.room_len)
+
+pub row_appended : (a b d : Writer) (row : ℕ × Option Found) (value : Found) → row.1 ≡ Some value
+    → Appends a b (head 0 row.0) → Appends b d (encoding (item_of (view value))) → Appends a d (row_encoding row)
+row_appended a b d row value is one two =
+    let whole : row_encoding row ≡ head 0 row.0 ++ encoding (item_of (view value)) = ap (λ (v : Option Found). row_encoding (row.0, v)) is in
+    subst (Appends a d) (sym whole) (Appends-then a b d (head 0 row.0) (encoding (item_of (view value))) one two)
+
+pub rows_appended : (a b e : Writer) (rows : List (ℕ × Option Found)) (i : ℕ) (d : ℕ × Option Found) → i < length rows
+    → Appends a b (rows_encoding (take i rows)) → Appends b e (row_encoding (get_or rows i d)) → Appends a e (rows_encoding (take (i + 1) rows))
+rows_appended a b e rows i d lt before one =
+    subst (Appends a e) (sym (one_more_row rows i d lt)) (Appends-then a b e (rows_encoding (take i rows)) (row_encoding (get_or rows i d)) before one)
 
 -- ---- the map of a table
 

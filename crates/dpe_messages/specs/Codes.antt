@@ -1,4 +1,4 @@
--- The codes by which a payload is refused.
+-- The codes by which a payload is refused, and those that bound the codes of refusals.
 use Rattle.std.specs.Prelude.{ℕ}
 
 abbrev pub invalid_command : ℕ
@@ -7,5 +7,13 @@ invalid_command = 2
 abbrev pub invalid_argument : ℕ
 invalid_argument = 3
 
+abbrev pub seed_locked : ℕ
+seed_locked = 5
+
+-- the first of the codes that stand side by side
 abbrev pub unsupported : ℕ
 unsupported = 16
+
+-- and the last of them
+abbrev pub root_locality : ℕ
+root_locality = 27

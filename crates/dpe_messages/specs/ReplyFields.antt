@@ -1,7 +1,8 @@
 -- Reading the map of a reply that has byte strings alone, under keys 1 and 2.
-use Rattle.std.specs.Prelude.{ℕ, ◌==◌, ◌&&◌, ◌||◌, List, [], ◌∷◌, length, Option, Some, None, Result, Ok, Err, nat_le, if◌then◌else◌}
+use Rattle.std.specs.Prelude.{ℕ, Bool, ◌==◌, ◌&&◌, ◌||◌, List, [], ◌∷◌, length, Option, Some, None, Result, Ok, Err, nat_le, if◌then◌else◌}
 use Rattle.std.specs.Option.{option_map}
 use Rattle.dpe_cbor.specs.Decoding.{Decoder, ◌>>=◌, both, whole, argument_of, content_of}
+use Rattle.dpe_messages.specs.Codes.{invalid_command, invalid_argument, seed_locked, unsupported, root_locality}
 use Rattle.dpe_messages.specs.FlatMap.{byte_string}
 use Rattle.dpe_messages.specs.Message.{Row}
 use Rattle.dpe_messages.specs.Reading.{two_of, outer_of}
@@ -68,8 +69,16 @@ abbrev pub retained_in : Option (List ℕ) → Option (Option (List ℕ))
 retained_in None = Some None
 retained_in (Some b) = option_map Some (handle_in b)
 
+-- `IsRefusalCode` as a test
+abbrev pub is_refusal_code : ℕ → Bool
+is_refusal_code code =
+    (code == invalid_command)
+    || ((code == invalid_argument)
+    || ((code == seed_locked)
+    || (nat_le unsupported code && nat_le code root_locality)))
+
 abbrev pub refused_in : ℕ → Strings → Option Response
-refused_in code (None, None) = if (code == 2) || ((code == 3) || ((code == 5) || (nat_le 16 code && nat_le code 27))) then Some (refused code) else None
+refused_in code (None, None) = if is_refusal_code code then Some (refused code) else None
 refused_in code (None, Some _) = None
 refused_in code (Some _, _) = None
 

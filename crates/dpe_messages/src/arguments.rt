@@ -38,6 +38,7 @@ pub struct Argument {
     pub outside: Outside,
 }
 
+use crate::codes;
 use Outside::{IfTrue, Nothing, UnlessTrue};
 use Presence::{OneOfTwo, Optional, Required};
 use Range::{Boolean, BytesBetween, NumberUpTo};
@@ -114,13 +115,13 @@ pub fn arguments_of(number: u64) -> &'static [Argument]
     ensures { result.now ≡ arguments number }
 {
     match number {
-        7 => &INITIALIZE,
-        8 => &DERIVE,
-        10 => &SIGN,
-        11 => &SEAL,
-        12 => &UNSEAL,
-        14 => &ROTATE,
-        15 => &DESTROY,
+        codes::INITIALIZE_CONTEXT => &INITIALIZE,
+        codes::DERIVE_CONTEXT => &DERIVE,
+        codes::SIGN => &SIGN,
+        codes::SEAL => &SEAL,
+        codes::UNSEAL => &UNSEAL,
+        codes::ROTATE_CONTEXT_HANDLE => &ROTATE,
+        codes::DESTROY_CONTEXT => &DESTROY,
         _ => &[],
     }
 }

@@ -1,4 +1,5 @@
-ghost use Rattle.std.specs.Prelude.{◌≡◌, ◌≤◌, IfSome, length, take};
+//! The payload of a command, written by those who ask.
+ghost use Rattle.std.specs.Prelude.{◌≡◌, ◌≤◌, IfSome, length, take, drop};
 ghost use Rattle.std.specs.Option.{option_map};
 ghost use Rattle.dpe_messages.specs.FlatMap.{byte_string, number as number_value};
 ghost use Rattle.dpe_messages.specs.Found.{view};
@@ -6,6 +7,7 @@ ghost use Rattle.dpe_messages.specs.Commands.{configuration_of, derive_request, 
 ghost use Rattle.dpe_messages.specs.Request.{derive as a_derive, sign as a_sign, seal as a_seal, unseal as an_unseal};
 ghost use Rattle.dpe_messages.specs.CommandRows.{command_payload, unless_empty, unless_number, if_true, unless_true, inline_value, descriptor_value, IsInlineRight, IsDeriveWritable, IsCommandWritable};
 
+use crate::codes;
 use crate::command::{Command, Config, Derive, Seal, Sign, Unseal};
 use crate::layers::Found;
 use crate::message::write_message;
@@ -107,6 +109,7 @@ fn write_derive(derive: &Derive<'_>, room: &mut [u8; 4096]) -> usize
     requires { IsDeriveWritable derive.now }
     ensures within { result ≤ 4096 }
     ensures written { take result room.new ≡ command_payload (a_derive (derive_request derive.now)) }
+    ensures behind { drop result room.new ≡ drop result room.old }
 {
     let handle = handle_value(derive.handle);
     let code = input_value(derive.code);
@@ -119,7 +122,7 @@ fn write_derive(derive: &Derive<'_>, room: &mut [u8; 4096]) -> usize
     let may_derive = truth_unless_true(derive.may_derive);
     let locality = locality_number(&derive.locality);
     write_message(
-        8,
+        codes::DERIVE_CONTEXT,
         &[
             (1, handle),
             (2, code),
@@ -141,12 +144,13 @@ fn write_sign(sign: &Sign<'_>, room: &mut [u8; 4096]) -> usize
     requires message { length sign.now.message.now ≤ 2048 }
     ensures within { result ≤ 4096 }
     ensures written { take result room.new ≡ command_payload (a_sign (sign_request sign.now)) }
+    ensures behind { drop result room.new ≡ drop result room.old }
 {
     let handle = handle_value(sign.handle);
     let label = bytes_unless_empty(sign.label);
     let retain = truth_if_true(sign.retain);
     write_message(
-        10,
+        codes::SIGN,
         &[
             (1, handle),
             (2, label),
@@ -164,6 +168,7 @@ fn write_seal(seal: &Seal<'_>, room: &mut [u8; 4096]) -> usize
     requires plain { length seal.now.plain.now ≤ 2048 }
     ensures within { result ≤ 4096 }
     ensures written { take result room.new ≡ command_payload (a_seal (seal_request seal.now)) }
+    ensures behind { drop result room.new ≡ drop result room.old }
 {
     let handle = handle_value(seal.handle);
     let label = bytes_unless_empty(seal.label);
@@ -171,7 +176,7 @@ fn write_seal(seal: &Seal<'_>, room: &mut [u8; 4096]) -> usize
     let localities = number_unless(255, seal.localities);
     let modes = number_unless(15, seal.modes);
     write_message(
-        11,
+        codes::SEAL,
         &[
             (1, handle),
             (2, label),
@@ -189,12 +194,13 @@ fn write_unseal(unseal: &Unseal<'_>, room: &mut [u8; 4096]) -> usize
     requires sealed { length unseal.now.sealed.now ≤ 3900 }
     ensures within { result ≤ 4096 }
     ensures written { take result room.new ≡ command_payload (an_unseal (unseal_request unseal.now)) }
+    ensures behind { drop result room.new ≡ drop result room.old }
 {
     let handle = handle_value(unseal.handle);
     let label = bytes_unless_empty(unseal.label);
     let retain = truth_if_true(unseal.retain);
     write_message(
-        12,
+        codes::UNSEAL,
         &[
             (1, handle),
             (2, label),
@@ -213,15 +219,20 @@ pub fn write_command(command: &Command<'_>, room: &mut [u8; 4096]) -> usize
     requires { IsCommandWritable command.now }
     ensures within { result ≤ 4096 }
     ensures written { take result room.new ≡ command_payload (request_of command.now) }
+    ensures behind { drop result room.new ≡ drop result room.old }
 {
     match command {
-        Command::GetProfile => write_message(1, &[], room),
-        Command::Initialize => write_message(7, &[], room),
+        Command::GetProfile => write_message(codes::GET_PROFILE, &[], room),
+        Command::Initialize => write_message(codes::INITIALIZE_CONTEXT, &[], room),
         Command::Derive(derive) => write_derive(derive, room),
         Command::Sign(sign) => write_sign(sign, room),
         Command::Seal(seal) => write_seal(seal, room),
         Command::Unseal(unseal) => write_unseal(unseal, room),
-        Command::Rotate(handle) => write_message(14, &[(1, handle_value(handle))], room),
+        Command::Rotate(handle) => write_message(
+            codes::ROTATE_CONTEXT_HANDLE,
+            &[(1, handle_value(handle))],
+            room,
+        ),
         Command::Destroy { handle, recursive } => write_destroy(handle, *recursive, room),
     }
 }
@@ -231,9 +242,10 @@ ghost use Rattle.dpe_messages.specs.Request.{destroy};
 fn write_destroy(handle: &[u8; 16], recursive: bool, room: &mut [u8; 4096]) -> usize
     ensures within { result ≤ 4096 }
     ensures written { take result room.new ≡ command_payload (destroy handle.now recursive) }
+    ensures behind { drop result room.new ≡ drop result room.old }
 {
     write_message(
-        15,
+        codes::DESTROY_CONTEXT,
         &[(1, handle_value(handle)), (2, truth_if_true(recursive))],
         room,
     )

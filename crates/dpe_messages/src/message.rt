@@ -1,4 +1,5 @@
-ghost use Rattle.std.specs.Prelude.{◌≡◌, ◌+◌, ◌<◌, ◌≤◌, ◌^◌, ◌++◌, ℕ, length, take};
+//! Messages: session 0 around a number and a flat map, which a table of rows gives.
+ghost use Rattle.std.specs.Prelude.{◌≡◌, ◌+◌, ◌<◌, ◌≤◌, ◌^◌, ◌++◌, ℕ, length, take, drop};
 ghost use Rattle.dpe_cbor.specs.Item.{uint, bytes as byte_string};
 ghost use Rattle.dpe_cbor.specs.Encoding.{head, encoding};
 ghost use Rattle.dpe_cbor.specs.Written.{Appends, Fits};
@@ -162,6 +163,7 @@ pub fn write_message(number: u64, rows: &[Row<'_>], room: &mut [u8; 4096]) -> us
     requires { length (message number (present (rows_of rows.now))) ≤ 4096 }
     ensures within { result ≤ 4096 }
     ensures written { take result room.new ≡ message number (present (rows_of rows.now)) }
+    ensures behind { drop result room.new ≡ drop result room.old }
 {
     let len = inner_len(number, rows);
     let mut writer = Writer::new(room);

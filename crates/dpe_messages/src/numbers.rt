@@ -3,6 +3,7 @@ ghost use Rattle.std.specs.Prelude.{◌≡◌, ◌≤◌, ℕ, IfSome, IfNone};
 ghost use Rattle.dpe_messages.specs.Layers.{HasNumber, HasCommandNumber};
 ghost use Rattle.dpe_messages.specs.Reading.{number_of, command_of};
 
+use crate::codes;
 use crate::layers::outer;
 use crate::slots::inner;
 
@@ -21,7 +22,7 @@ fn command_number_in(payload: &[u8]) -> Option<u64>
     ensures { result ≡ command_of payload.now }
 {
     let number = number_in(payload)?;
-    if !(1..=16).contains(&number) {
+    if !(codes::GET_PROFILE..=codes::GET_CERTIFICATE_CHAIN).contains(&number) {
         return None;
     }
     Some(number)

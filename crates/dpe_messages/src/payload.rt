@@ -12,6 +12,7 @@ ghost use Rattle.dpe_messages.specs.Commands.{request_of, derive_request, sign_r
 ghost use Rattle.dpe_messages.specs.Class.{class, class_of, IsClass, is_command_number as may_be_command, is_unsupported as is_left_out};
 
 use crate::arguments::arguments_of;
+use crate::codes;
 use crate::command::{Command, Config, Derive, Refusal, Seal, Sign, Unseal};
 use crate::layers::{Found, outer};
 use crate::slots::{Slots, inner};
@@ -168,13 +169,13 @@ fn command_from<'a>(number: u64, slots: &Slots<'a>) -> Command<'a>
     ensures { request_of result ≡ request_from number (value_in slots.now) }
 {
     match number {
-        7 => Command::Initialize,
-        8 => Command::Derive(derive(slots)),
-        10 => Command::Sign(sign(slots)),
-        11 => Command::Seal(seal(slots)),
-        12 => Command::Unseal(unseal(slots)),
-        14 => Command::Rotate(handle(slots.value(1))),
-        15 => Command::Destroy {
+        codes::INITIALIZE_CONTEXT => Command::Initialize,
+        codes::DERIVE_CONTEXT => Command::Derive(derive(slots)),
+        codes::SIGN => Command::Sign(sign(slots)),
+        codes::SEAL => Command::Seal(seal(slots)),
+        codes::UNSEAL => Command::Unseal(unseal(slots)),
+        codes::ROTATE_CONTEXT_HANDLE => Command::Rotate(handle(slots.value(1))),
+        codes::DESTROY_CONTEXT => Command::Destroy {
             handle: handle(slots.value(1)),
             recursive: flag(slots.value(2), false),
         },
@@ -185,13 +186,19 @@ fn command_from<'a>(number: u64, slots: &Slots<'a>) -> Command<'a>
 fn is_command_number(number: u64) -> bool
     ensures { result ≡ may_be_command number }
 {
-    matches!(number, 1..=16)
+    matches!(number, codes::GET_PROFILE..=codes::GET_CERTIFICATE_CHAIN)
 }
 
 fn is_unsupported(number: u64) -> bool
     ensures { result ≡ is_left_out number }
 {
-    matches!(number, 2..=6 | 9 | 13 | 16)
+    matches!(
+        number,
+        codes::OPEN_SESSION..=codes::IMPORT_SESSION
+            | codes::CERTIFY_KEY
+            | codes::DERIVE_SEALING_PUBLIC_KEY
+            | codes::GET_CERTIFICATE_CHAIN
+    )
 }
 
 // The lines on the inner number and the map.

@@ -1,3 +1,4 @@
+//! Payloads, and the class of each.
 use crate::{Command, Config, Refusal, command_number, read_payload, reply_code};
 use dpe_cbor::{NoRoom, Writer};
 use std::process::Abort;
@@ -13,15 +14,23 @@ fn code(payload: &[u8]) -> u64 {
     }
 }
 
-static PAYLOADS: [(&[u8], u64); 34] = [
+static PAYLOADS: [(&[u8], u64); 45] = [
     // GetProfile, InitializeContext, and what is left out of the profile
     (&[0x82, 0x00, 0x43, 0x82, 0x01, 0xa0], 0),
     (&[0x82, 0x00, 0x43, 0x82, 0x07, 0xa0], 0),
     (&[0x82, 0x00, 0x43, 0x82, 0x09, 0xa0], 16),
     (&[0x82, 0x00, 0x43, 0x82, 0x02, 0xa0], 16),
+    (&[0x82, 0x00, 0x43, 0x82, 0x03, 0xa0], 16),
+    (&[0x82, 0x00, 0x43, 0x82, 0x04, 0xa0], 16),
+    (&[0x82, 0x00, 0x43, 0x82, 0x05, 0xa0], 16),
     (&[0x82, 0x00, 0x43, 0x82, 0x06, 0xa0], 16),
     (&[0x82, 0x00, 0x43, 0x82, 0x0d, 0xa0], 16),
     (&[0x82, 0x00, 0x43, 0x82, 0x10, 0xa0], 16),
+    // DeriveContext, Seal, Unseal and DestroyContext without their arguments
+    (&[0x82, 0x00, 0x43, 0x82, 0x08, 0xa0], 3),
+    (&[0x82, 0x00, 0x43, 0x82, 0x0b, 0xa0], 3),
+    (&[0x82, 0x00, 0x43, 0x82, 0x0c, 0xa0], 3),
+    (&[0x82, 0x00, 0x43, 0x82, 0x0f, 0xa0], 3),
     // no command has the number 0 or 17
     (&[0x82, 0x00, 0x43, 0x82, 0x00, 0xa0], 2),
     (&[0x82, 0x00, 0x43, 0x82, 0x11, 0xa0], 2),
@@ -34,6 +43,13 @@ static PAYLOADS: [(&[u8], u64); 34] = [
     (&[0x82, 0x18, 0x05, 0x43, 0x82, 0x01, 0xa0], 2),
     // keys unsorted, and a key twice
     (
+        &[
+            0x82, 0x00, 0x57, 0x82, 0x0e, 0xa2, 0x02, 0xf4, 0x01, 0x50, 0, 0, 0, 0, 0, 0, 0, 1, 0,
+            0, 0, 0, 0, 0, 0, 0,
+        ],
+        2,
+    ),
+    (
         &[0x82, 0x00, 0x47, 0x82, 0x07, 0xa2, 0x02, 0xf4, 0x01, 0xf4],
         2,
     ),
@@ -41,8 +57,9 @@ static PAYLOADS: [(&[u8], u64); 34] = [
         &[0x82, 0x00, 0x47, 0x82, 0x07, 0xa2, 0x01, 0xf4, 0x01, 0xf4],
         2,
     ),
-    // a byte too many, outside and inside
+    // a byte too many, outside (also in session 1) and inside
     (&[0x82, 0x00, 0x43, 0x82, 0x01, 0xa0, 0x00], 2),
+    (&[0x82, 0x01, 0x43, 0x82, 0x01, 0xa0, 0x00], 2),
     (&[0x82, 0x00, 0x44, 0x82, 0x02, 0xa0, 0x00], 2),
     // a float, null, undefined, a map in the map, a text that isn't UTF-8, a negative number
     (
@@ -64,8 +81,15 @@ static PAYLOADS: [(&[u8], u64); 34] = [
         2,
     ),
     (&[], 2),
-    // an unknown key; a text where a boolean belongs, and a number
+    // an unknown key, key 0, and key 2^32 + 1; a text where a boolean belongs, and a number
     (&[0x82, 0x00, 0x45, 0x82, 0x01, 0xa1, 0x09, 0x00], 3),
+    (&[0x82, 0x00, 0x45, 0x82, 0x07, 0xa1, 0x00, 0xf4], 3),
+    (
+        &[
+            0x82, 0x00, 0x4d, 0x82, 0x07, 0xa1, 0x1b, 0, 0, 0, 1, 0, 0, 0, 1, 0xf4,
+        ],
+        3,
+    ),
     (&[0x82, 0x00, 0x46, 0x82, 0x07, 0xa1, 0x01, 0x61, 0x61], 3),
     (&[0x82, 0x00, 0x45, 0x82, 0x07, 0xa1, 0x01, 0x00], 3),
     // simulation false is a default written out; true is outside, also beside an unknown key
@@ -88,7 +112,7 @@ fn payloads_by_their_bytes(rt: HostRuntime) {
 
 // A value of an argument.
 #[derive(Clone, Copy)]
-enum Value {
+pub enum Value {
     Number(u64),
     // so many bytes
     Bytes(usize),
@@ -120,14 +144,20 @@ fn write_outer(inner: &[u8], room: &mut [u8]) -> Result<usize, NoRoom> {
     Ok(writer.len())
 }
 
-fn code_of(rt: &impl Abort, number: u64, arguments: &[(u64, Value)]) -> u64 {
+// Writes the payload of a command with these arguments, or of a reply.
+pub fn write_payload(
+    number: u64,
+    arguments: &[(u64, Value)],
+    room: &mut [u8],
+) -> Result<usize, NoRoom> {
     let mut inner = [0; 4096];
-    let inner_len = write_inner(number, arguments, &mut inner).expect(rt, "the inner layer fits");
+    let len = write_inner(number, arguments, &mut inner)?;
+    write_outer(inner.get(..len).unwrap_or(&[]), room)
+}
+
+fn code_of(rt: &impl Abort, number: u64, arguments: &[(u64, Value)]) -> u64 {
     let mut payload = [0; 4096];
-    let len = write_outer(inner.get(..inner_len).unwrap_or(&[]), &mut payload).expect(
-        rt,
-        "the payload fits",
-    );
+    let len = write_payload(number, arguments, &mut payload).expect(rt, "the payload fits");
     code(payload.get(..len).unwrap_or(&[]))
 }
 
@@ -257,11 +287,9 @@ fn arguments_by_the_table(rt: HostRuntime) {
 
 #[test]
 fn defaults_are_filled_in(rt: HostRuntime) -> Result<(), Fail> {
-    let mut inner = [0; 4096];
     let mut payload = [0; 4096];
 
-    let inner_len = write_inner(11, &[HANDLE, (6, Value::Bytes(3))], &mut inner)?;
-    let len = write_outer(inner.get(..inner_len).unwrap_or(&[]), &mut payload)?;
+    let len = write_payload(11, &[HANDLE, (6, Value::Bytes(3))], &mut payload)?;
     match read_payload(payload.get(..len).unwrap_or(&[])) {
         Ok(Command::Seal(seal)) => {
             assert_eq!(rt; seal.handle, &[0; 16]);
@@ -275,8 +303,7 @@ fn defaults_are_filled_in(rt: HostRuntime) -> Result<(), Fail> {
         _ => assert!(rt; false, "a Seal"),
     }
 
-    let inner_len = write_inner(8, &[HANDLE, CODE, CONFIG, AUTHORITY, MODE], &mut inner)?;
-    let len = write_outer(inner.get(..inner_len).unwrap_or(&[]), &mut payload)?;
+    let len = write_payload(8, &[HANDLE, CODE, CONFIG, AUTHORITY, MODE], &mut payload)?;
     match read_payload(payload.get(..len).unwrap_or(&[])) {
         Ok(Command::Derive(derive)) => {
             assert_eq!(rt; derive.mode, 3);

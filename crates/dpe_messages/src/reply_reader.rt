@@ -1,3 +1,4 @@
+//! Replies, read by those who asked.
 ghost use Rattle.std.specs.Prelude.{◌≡◌, ◌↔◌, IsTrue, IfOk, IfErr, IfSome, length};
 ghost use Rattle.std.specs.Option.{option_map};
 ghost use Rattle.std.specs.Result.{result_ok};
@@ -5,9 +6,21 @@ ghost use Rattle.dpe_messages.specs.Found.{Answers};
 ghost use Rattle.dpe_messages.specs.Replies.{Response, IsReplyTo, response_of};
 ghost use Rattle.dpe_messages.specs.ReplyFields.{Strings, strings_of, field_of, one_field_of, two_fields_of, fields_of, strings_map_of, inner_strings_of, reply_strings_of, told, handle_in, retained_in, refused_in, new_handle_in, derived_in, made_in, done_in, answer_in, response_in, told_by};
 
+use crate::codes;
 use crate::layers::outer;
 use crate::reply::Reply;
 use dpe_cbor::Reader;
+
+/// The bytes of a signature.
+const SIGNATURE_LENGTH: usize = 64;
+
+/// The bytes of the box of no byte.
+const SHORTEST_BOX: usize = 85;
+
+/// The bytes of the box of the longest plaintext.
+const LONGEST_BOX: usize = 2133;
+
+const LONGEST_PLAINTEXT: usize = 2048;
 
 /// The command that a reply answers.
 #[derive(Clone, Copy, Debug, PartialEq, Eq)]
@@ -172,7 +185,13 @@ fn refused<'a>(code: u64, fields: &Fields<'a>) -> Result<Reply<'a>, NotAReply>
 {
     match (fields.first, fields.second) {
         (None, None) => {
-            if matches!(code, 2 | 3 | 5 | 16..=27) {
+            if matches!(
+                code,
+                codes::INVALID_COMMAND
+                    | codes::INVALID_ARGUMENT
+                    | codes::SEED_LOCKED
+                    | codes::UNSUPPORTED..=codes::ROOT_LOCALITY
+            ) {
                 return Ok(Reply::Refused(code as u8));
             }
             Err(NotAReply)
@@ -241,9 +260,9 @@ fn answer<'a>(asked: &Asked, fields: &Fields<'a>) -> Result<Reply<'a>, NotAReply
         Asked::GetProfile => Err(NotAReply),
         Asked::Initialize => new_handle(fields),
         Asked::Derive => derived(fields),
-        Asked::Sign => made(fields, 64, 64),
-        Asked::Seal => made(fields, 85, 2133),
-        Asked::Unseal => made(fields, 0, 2048),
+        Asked::Sign => made(fields, SIGNATURE_LENGTH, SIGNATURE_LENGTH),
+        Asked::Seal => made(fields, SHORTEST_BOX, LONGEST_BOX),
+        Asked::Unseal => made(fields, 0, LONGEST_PLAINTEXT),
         Asked::Rotate => new_handle(fields),
         Asked::Destroy => done(fields),
     }
@@ -265,7 +284,7 @@ fn is_profile(payload: &[u8]) -> bool
 fn by_code<'a>(asked: &Asked, code: u64, fields: &Fields<'a>) -> Result<Reply<'a>, NotAReply>
     ensures { told result ≡ response_in asked.now code (strings_of fields.now) }
 {
-    if code == 0 {
+    if code == codes::OK {
         answer(asked, fields)
     } else {
         refused(code, fields)

@@ -1,11 +1,15 @@
+//! What is written, byte for byte, and what `read_reply` takes.
 ghost use Rattle.std.specs.Prelude.{◌≤◌};
 ghost use Rattle.dpe_messages.specs.CommandRows.{IsCommandWritable};
 ghost use Rattle.dpe_messages.specs.Replies.{IsWritable};
 
+use crate::reading_tests::{Value, write_payload};
 use crate::{
     Asked, Command, Config, Derive, Reply, Seal, Sign, Unseal, read_reply, write_command,
     write_reply,
 };
+use dpe_cbor::NoRoom;
+use std::test::Fail;
 
 // Whether the payload is these pieces, one behind the other.
 fn is_made_of(payload: Option<&[u8]>, pieces: &[&[u8]]) -> bool {
@@ -327,13 +331,20 @@ fn a_refusal_answers_every_command(rt: HostRuntime) {
     }
 }
 
-// Where a reply of so many bytes, with a new handle, is one.
-fn made_is_accepted_by(len: usize, accepts: &[bool; 8]) -> bool
+// Whether a reply of so many bytes is one to those commands, with a new handle and without one.
+fn made_is_accepted_by(len: usize, with: &[bool; 8], without: &[bool; 8]) -> bool
+    requires { len ≤ 2133 }
+{
+    made_with_is_accepted_by(Some(HANDLE), len, with)
+        && made_with_is_accepted_by(None, len, without)
+}
+
+fn made_with_is_accepted_by(handle: Option<[u8; 16]>, len: usize, accepts: &[bool; 8]) -> bool
     requires { len ≤ 2133 }
 {
     let bytes = [0x5a; 2133];
     let made = Reply::Made {
-        handle: Some(HANDLE),
+        handle,
         bytes: &bytes[..len],
     };
     let mut room = [0; 4096];
@@ -357,15 +368,66 @@ fn a_reply_answers_its_own_command(rt: HostRuntime) {
         )
     );
     assert!(rt; is_accepted_by(handle, &[no, yes, yes, no, no, no, yes, no]));
-    assert!(rt; made_is_accepted_by(0, &[no, no, no, no, no, yes, no, no]));
-    assert!(rt; made_is_accepted_by(16, &[no, no, yes, no, no, yes, no, no]));
-    assert!(rt; made_is_accepted_by(63, &[no, no, no, no, no, yes, no, no]));
-    assert!(rt; made_is_accepted_by(64, &[no, no, no, yes, no, yes, no, no]));
-    assert!(rt; made_is_accepted_by(84, &[no, no, no, no, no, yes, no, no]));
-    assert!(rt; made_is_accepted_by(85, &[no, no, no, no, yes, yes, no, no]));
-    assert!(rt; made_is_accepted_by(2048, &[no, no, no, no, yes, yes, no, no]));
-    assert!(rt; made_is_accepted_by(2049, &[no, no, no, no, yes, no, no, no]));
-    assert!(rt; made_is_accepted_by(2133, &[no, no, no, no, yes, no, no, no]));
+    let (unsealed, signed, sealed) = (
+        [no, no, no, no, no, yes, no, no],
+        [no, no, no, yes, no, yes, no, no],
+        [no, no, no, no, yes, no, no, no],
+    );
+    let both = [no, no, no, no, yes, yes, no, no];
+    // 16 bytes beside a handle may be the parent's new handle
+    let handles = [no, no, yes, no, no, yes, no, no];
+    assert!(rt; made_is_accepted_by(0, &unsealed, &unsealed));
+    assert!(rt; made_is_accepted_by(16, &handles, &unsealed));
+    assert!(rt; made_is_accepted_by(63, &unsealed, &unsealed));
+    assert!(rt; made_is_accepted_by(64, &signed, &signed));
+    assert!(rt; made_is_accepted_by(65, &unsealed, &unsealed));
+    assert!(rt; made_is_accepted_by(84, &unsealed, &unsealed));
+    assert!(rt; made_is_accepted_by(85, &both, &both));
+    assert!(rt; made_is_accepted_by(2048, &both, &both));
+    assert!(rt; made_is_accepted_by(2049, &sealed, &sealed));
+    assert!(rt; made_is_accepted_by(2133, &sealed, &sealed));
+}
+
+#[test]
+fn a_box_too_long_is_no_reply(rt: HostRuntime) -> Result<(), Fail> {
+    let mut payload = [0; 4096];
+    let len = write_payload(0, &[(2, Value::Bytes(2134))], &mut payload)?;
+    assert!(rt; is_accepted_by(payload.get(..len).unwrap_or(&[]), &[false; 8]));
+    Ok(())
+}
+
+// Whether so many zeros under key 2, and 16 under key 1 where a handle is wanted, are read as that.
+fn is_read_as_made(asked: &Asked, len: usize, retained: bool) -> Result<bool, NoRoom> {
+    let zeros = [0; 4096];
+    let mut payload = [0; 4096];
+    let made = (2, Value::Bytes(len));
+    let kept = if retained { Some([0; 16]) } else { None };
+    let written = if retained {
+        write_payload(0, &[(1, Value::Bytes(16)), made], &mut payload)?
+    } else {
+        write_payload(0, &[made], &mut payload)?
+    };
+    match read_reply(asked, payload.get(..written).unwrap_or(&[])) {
+        Ok(Reply::Made { handle, bytes }) => {
+            Ok(handle == kept && zeros.get(..len) == Some(bytes))
+        }
+        _ => Ok(false),
+    }
+}
+
+#[test]
+fn results_are_read_with_a_new_handle_and_without(rt: HostRuntime) -> Result<(), Fail> {
+    let results = [
+        (Asked::Sign, 64),
+        (Asked::Seal, 85),
+        (Asked::Unseal, 0),
+        (Asked::Unseal, 3),
+    ];
+    for (asked, len) in results {
+        assert!(rt; is_read_as_made(&asked, len, false)?);
+        assert!(rt; is_read_as_made(&asked, len, true)?);
+    }
+    Ok(())
 }
 
 #[test]
