@@ -13,6 +13,7 @@ ghost use Rattle.dpe_model.specs.LiveRows.{live_of};
 
 use crate::answers::answer;
 use crate::asked::{initializes, makes};
+use crate::codes::{INVALID_ARGUMENT, INVALID_COMMAND, UNSUPPORTED};
 use crate::effect::rows_after;
 use crate::rows::PlainRow;
 use crate::state::{PlainState, mode, used};
@@ -107,9 +108,9 @@ fn refuse(refusal: &Refusal, out: &mut [u8; 4096]) -> usize
     ensures written { take result out.new ≡ refusal_payload (refusal_code refusal.now) }
 {
     match refusal {
-        Refusal::NotACommand => write_reply(&Reply::Refused(2), out),
-        Refusal::Unsupported => write_reply(&Reply::Refused(16), out),
-        Refusal::BadArguments => write_reply(&Reply::Refused(3), out),
+        Refusal::NotACommand => write_reply(&Reply::Refused(INVALID_COMMAND), out),
+        Refusal::Unsupported => write_reply(&Reply::Refused(UNSUPPORTED), out),
+        Refusal::BadArguments => write_reply(&Reply::Refused(INVALID_ARGUMENT), out),
     }
 }
 

@@ -2,6 +2,8 @@ ghost use Rattle.std.specs.Prelude.{◌≡◌, ◌≤◌, length, IfSome};
 ghost use Rattle.dpe_messages.specs.CommandRows.{IsCommandWritable, IsShort};
 
 mod commands;
+mod order;
+mod random_bytes;
 
 use crate::plain::Plain;
 use dpe_messages::{
@@ -101,7 +103,42 @@ enum Ask {
     },
 }
 
-// The payload of the reply to a command, with random bytes of zeros.
+// A derivation of the code 0x11 that retains the parent.
+fn retaining(parent: u64) -> Ask {
+    Ask::Derive {
+        parent,
+        code: 0x11,
+        retain: true,
+    }
+}
+
+fn retiring(parent: u64) -> Ask {
+    Ask::Derive {
+        parent,
+        code: 0x11,
+        retain: false,
+    }
+}
+
+// The payload of the reply to a command.
+fn execute_with(
+    alloc: Global,
+    plain: &mut Plain,
+    locality: u8,
+    random: &[u8; 32],
+    command: &Command<'_>,
+) -> Result<Vec<u8>, AllocError>
+    requires locality { locality ≤ 7 }
+    requires writable { IsCommandWritable command.now }
+{
+    let mut payload = [0; 4096];
+    let len = write_command(command, &mut payload);
+    let mut out = [0; 4096];
+    let len = plain.execute(alloc, locality, random, &payload[..len], &mut out)?;
+    Vec::from_slice(alloc, &out[..len])
+}
+
+// The same with random bytes of zeros.
 fn execute(
     alloc: Global,
     plain: &mut Plain,
@@ -111,11 +148,7 @@ fn execute(
     requires locality { locality ≤ 7 }
     requires writable { IsCommandWritable command.now }
 {
-    let mut payload = [0; 4096];
-    let len = write_command(command, &mut payload);
-    let mut out = [0; 4096];
-    let len = plain.execute(alloc, locality, &[0; 32], &payload[..len], &mut out)?;
-    Vec::from_slice(alloc, &out[..len])
+    execute_with(alloc, plain, locality, &[0; 32], command)
 }
 
 fn derivation<'a>(
@@ -249,6 +282,7 @@ fn unseal(
     alloc: Global,
     plain: &mut Plain,
     context: u64,
+    retain: bool,
     sealed: &[u8],
 ) -> Result<Vec<u8>, AllocError>
     requires { length sealed.now ≤ 3900 }
@@ -256,7 +290,7 @@ fn unseal(
     let command = Command::Unseal(Unseal {
         handle: &handle(context),
         label: b"",
-        retain: true,
+        retain,
         sealed,
     });
     execute(alloc, plain, 0, &command)
@@ -583,7 +617,7 @@ fn answers_are_computed_from_the_path(rt: HostRuntime) -> Result<(), Fail> {
     let reply = seal(alloc, &mut plain, 2, true, 255, 15, &[7; 2048])?;
     let sealed = made(alloc, &Asked::Seal, &reply)?;
     assert_eq!(rt; sealed.len(), 2133);
-    let reply = unseal(alloc, &mut plain, 4, &sealed)?;
+    let reply = unseal(alloc, &mut plain, 4, true, &sealed)?;
     let text = made(alloc, &Asked::Unseal, &reply)?;
     assert_eq!(rt; text.as_slice(), [7; 2048].as_slice());
 
@@ -593,13 +627,13 @@ fn answers_are_computed_from_the_path(rt: HostRuntime) -> Result<(), Fail> {
     let mut turned = open;
     turned[84] ^= 1;
     let cut = cut_short(&open);
-    let reply = unseal(alloc, &mut plain, 9, &cut)?;
+    let reply = unseal(alloc, &mut plain, 9, true, &cut)?;
     assert_eq!(rt; reply_code(&reply), Some(22));
-    let reply = unseal(alloc, &mut plain, 9, &turned)?;
+    let reply = unseal(alloc, &mut plain, 9, true, &turned)?;
     assert_eq!(rt; reply_code(&reply), Some(23));
-    let reply = unseal(alloc, &mut plain, 9, &kept)?;
+    let reply = unseal(alloc, &mut plain, 9, true, &kept)?;
     assert_eq!(rt; reply_code(&reply), Some(24));
-    let reply = unseal(alloc, &mut plain, 9, &open)?;
+    let reply = unseal(alloc, &mut plain, 9, true, &open)?;
     assert_eq!(rt;
         hex::encode(alloc, &reply)?.as_str(),
         "8200578200a20150000000000000000a00000000000000000240"

@@ -9,6 +9,10 @@ ghost use Rattle.dpe_model.specs.Verdict.{has, named as named_by, makes as made_
 ghost use Rattle.dpe_model.specs.PlainState.{seen, state_of, box_tests as tests_of_opening, box_tests_at};
 
 use crate::asked::{derives, initializes, makes, named, retains_parent};
+use crate::codes::{
+    BOX_MALFORMED, BOX_REFUSED, CONTEXTS_FULL, DERIVE_NOT_ALLOWED, NO_SUCH_HANDLE, POLICY_REFUSED,
+    ROOT_LOCALITY, SEED_LOCKED, SERIALS_SPENT, TOO_DEEP, WRONG_LOCALITY,
+};
 use crate::rows::PlainRow;
 use crate::state::{PlainState, cdis, mode, used};
 use dpe_box::{NotOpened, admits, open_box};
@@ -178,17 +182,17 @@ fn tests(
 {
     let opening = box_tests(seed, locality, command, row);
     [
-        (is_outside_root_locality(locality, command), 27),
-        (is_seed_locked(state, command), 5),
-        (is_without_row(command, row), 17),
-        (is_of_other_locality(locality, row), 18),
-        (is_derivation_not_allowed(command, row), 19),
-        (is_too_deep(command, row), 20),
-        (is_full(state, command), 21),
-        (is_out_of_serials(state, command), 25),
-        (opening.malformed, 22),
-        (opening.refused, 23),
-        (opening.policy_refused, 24),
+        (is_outside_root_locality(locality, command), ROOT_LOCALITY),
+        (is_seed_locked(state, command), SEED_LOCKED),
+        (is_without_row(command, row), NO_SUCH_HANDLE),
+        (is_of_other_locality(locality, row), WRONG_LOCALITY),
+        (is_derivation_not_allowed(command, row), DERIVE_NOT_ALLOWED),
+        (is_too_deep(command, row), TOO_DEEP),
+        (is_full(state, command), CONTEXTS_FULL),
+        (is_out_of_serials(state, command), SERIALS_SPENT),
+        (opening.malformed, BOX_MALFORMED),
+        (opening.refused, BOX_REFUSED),
+        (opening.policy_refused, POLICY_REFUSED),
     ]
 }
 

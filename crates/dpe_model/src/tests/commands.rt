@@ -1,6 +1,9 @@
 use crate::plain::Plain;
-use crate::tests::{Ask, LAST_SERIAL, Want, derive_debug, first_wrong, seal, short_box, unseal};
-use dpe_messages::reply_code;
+use crate::tests::{
+    Ask, LAST_SERIAL, ROOT_SIGNATURE, Want, derive_debug, first_wrong, made, retaining, retiring,
+    seal, short_box, unseal,
+};
+use dpe_messages::{Asked, reply_code};
 use std::alloc::{AllocError, Global};
 use std::test::Fail;
 
@@ -40,23 +43,6 @@ fn the_profile_is_told_at_each_locality(rt: HostRuntime) -> Result<(), Fail> {
     )?;
     assert_eq!(rt; wrong, None);
     Ok(())
-}
-
-// A derivation of the code 0x11 that retains the parent.
-fn retaining(parent: u64) -> Ask {
-    Ask::Derive {
-        parent,
-        code: 0x11,
-        retain: true,
-    }
-}
-
-fn retiring(parent: u64) -> Ask {
-    Ask::Derive {
-        parent,
-        code: 0x11,
-        retain: false,
-    }
 }
 
 #[test]
@@ -125,9 +111,9 @@ fn a_box_is_kept_from_other_modes(rt: HostRuntime) -> Result<(), Fail> {
     // the mask 2 admits the mode 1 alone, and the mask 4 the mode 2
     let normal = short_box(&seal(alloc, &mut plain, 2, true, 255, 2, b"")?);
     let debug = short_box(&seal(alloc, &mut plain, 3, true, 255, 4, b"")?);
-    let reply = unseal(alloc, &mut plain, 4, &normal)?;
+    let reply = unseal(alloc, &mut plain, 4, true, &normal)?;
     assert_eq!(rt; reply_code(&reply), Some(24));
-    let reply = unseal(alloc, &mut plain, 4, &debug)?;
+    let reply = unseal(alloc, &mut plain, 4, true, &debug)?;
     assert_eq!(rt; reply_code(&reply), Some(0));
     Ok(())
 }
@@ -187,6 +173,62 @@ fn a_signature_is_of_all_inputs(rt: HostRuntime) -> Result<(), Fail> {
                 Want::Bytes("820058468200a1025840", DESCRIBED_SIGNATURE),
             ),
         ],
+    )?;
+    assert_eq!(rt; wrong, None);
+    Ok(())
+}
+
+#[test]
+fn a_child_outlives_a_context_that_signed(rt: HostRuntime) -> Result<(), Fail> {
+    let mut plain = Plain::make(rt.alloc(), &[0; 32], 1);
+    let wrong = first_wrong(
+        rt.alloc(),
+        &mut plain,
+        &[
+            ("a root", 0, Ask::Initialize, Want::Handle(1)),
+            ("a child", 0, retaining(1), Want::Family(2, 3)),
+            (
+                "the root signs for the last time",
+                0,
+                signed(3),
+                Want::Bytes("820058468200a1025840", ROOT_SIGNATURE),
+            ),
+            ("no root", 0, Ask::Rotate(3), Want::Code(17)),
+            (
+                "the child signs",
+                0,
+                signed(2),
+                Want::Bytes("820058468200a1025840", CHILD_SIGNATURE),
+            ),
+        ],
+    )?;
+    assert_eq!(rt; wrong, None);
+    assert_eq!(rt; plain.live(), 0);
+    Ok(())
+}
+
+#[test]
+fn a_context_that_is_not_retained_unseals_once(rt: HostRuntime) -> Result<(), Fail> {
+    let alloc = rt.alloc();
+    let mut plain = Plain::make(alloc, &[0; 32], 1);
+    let wrong = first_wrong(
+        rt.alloc(),
+        &mut plain,
+        &[("a root", 0, Ask::Initialize, Want::Handle(1))],
+    )?;
+    assert_eq!(rt; wrong, None);
+    let reply = seal(alloc, &mut plain, 1, true, 255, 15, b"secret")?;
+    let sealed = made(alloc, &Asked::Seal, &reply)?;
+    assert_eq!(rt; sealed.len(), 91);
+    let reply = unseal(alloc, &mut plain, 2, false, &sealed)?;
+    assert_eq!(rt;
+        hex::encode(alloc, &reply)?.as_str(),
+        "82004b8200a10246736563726574"
+    );
+    let wrong = first_wrong(
+        rt.alloc(),
+        &mut plain,
+        &[("no root", 0, Ask::Rotate(2), Want::Code(17))],
     )?;
     assert_eq!(rt; wrong, None);
     Ok(())
