@@ -1,5 +1,6 @@
 #!/usr/bin/env python3
-"""Counts the instructions of keyed operations by valgrind's callgrind, beside plain code over the kit's sha2 and rand_chacha.
+"""Counts the instructions of keyed operations by valgrind's callgrind, beside plain code over the kit's sha2 and rand_chacha,
+and those of reading a Seal of 2,048 bytes beside those of sealing its bytes.
 
 Run it at the top of the repository after `rt run` in crates/keys_bench. One operation is the difference of 110
 and 10 of them, by a hundred.
@@ -18,16 +19,24 @@ def instructions(side, operation, count):
     return int(re.search(r"Collected : (\d+)", run.stderr).group(1)), run.stdout
 
 
+def one_of(side, operation):
+    """What one operation takes, and what is printed after many."""
+    few, _ = instructions(side, operation, 10)
+    many, printed = instructions(side, operation, 110)
+    return (many - few) / 100, printed
+
+
 def main():
     for operation in ["hmac", "sign", "derive", "seal"]:
-        one = {}
-        for side in ["ours", "straight"]:
-            few, _ = instructions(side, operation, 10)
-            many, printed = instructions(side, operation, 110)
-            one[side] = ((many - few) / 100, printed)
-        same = "the same answer" if one["ours"][1] == one["straight"][1] else "ANOTHER ANSWER"
-        ours, straight = one["ours"][0], one["straight"][0]
+        ours, our_answer = one_of("ours", operation)
+        straight, straight_answer = one_of("straight", operation)
+        same = "the same answer" if our_answer == straight_answer else "ANOTHER ANSWER"
         print(f"{operation}: {ours:.0f} beside {straight:.0f}, {ours / straight:.3f}, {same}")
+    read, _ = one_of("long", "read")
+    seal, _ = one_of("long", "seal")
+    short, _ = one_of("ours", "seal")
+    print(f"a Seal of 2,048 bytes: read {read:.0f}, seal {seal:.0f}, {read / seal:.4f}")
+    print(f"sealing 2,048 bytes beside 32: {seal / short:.2f}")
 
 
 if __name__ == "__main__":

@@ -1,8 +1,10 @@
 //! Does one keyed operation many times over, by this project's functions or by plain code over the kit's. The words are `ours` or
 //! `straight`, `hmac`, `sign`, `derive` or `seal`, and how many times. What is printed is the same for `ours` and `straight`.
+//! The words `long`, `read` or `seal`, and how many times, read the payload of a Seal of 2,048 bytes, or seal these bytes.
 #![tactic(auto)]
 
 mod inputs;
+mod long;
 mod ours;
 mod straight;
 
@@ -24,6 +26,8 @@ fn main(rt: HostRuntime) -> io::Result<ExitCode> {
         ours::repeated(operation.as_str(), count)
     } else if side.as_str() == "straight" {
         straight::repeated(operation.as_str(), count)
+    } else if side.as_str() == "long" {
+        long::repeated(operation.as_str(), count)
     } else {
         None
     };

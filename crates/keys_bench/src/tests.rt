@@ -1,4 +1,4 @@
-use crate::{ours, straight};
+use crate::{long, ours, straight};
 
 #[test]
 fn both_sides_compute_the_same(rt: HostRuntime) {
@@ -8,4 +8,14 @@ fn both_sides_compute_the_same(rt: HostRuntime) {
             straight::repeated(operation, 2)
         );
     }
+}
+
+#[test]
+fn a_long_seal_is_read_and_sealed(rt: HostRuntime) {
+    // 0 ^ 1 ^ 2 ^ 3 ^ 4, and the end of a tag computed by another program
+    assert_eq!(rt; long::repeated("read", 5), Some([0, 0, 0, 0, 0, 0, 0, 4]));
+    assert_eq!(rt;
+        long::repeated("seal", 1),
+        Some([157, 13, 237, 43, 234, 210, 22, 38])
+    );
 }
