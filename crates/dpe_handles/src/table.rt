@@ -1,6 +1,8 @@
 //! The rows, and what changes them.
-ghost use Rattle.std.specs.Prelude.{◌≡◌, ℕ, ◌+◌, ◌<◌, ◌≤◌, [], ◌∷◌, ◌++◌, length, vec_len, IfOk, All, Some, slice_get, remove};
-ghost use Rattle.dpe_handles.specs.Rows.{serial, IsAscending};
+ghost use Rattle.std.specs.Prelude.{◌≡◌, ℕ, ◌+◌, ◌<◌, ◌≤◌, [], ◌∷◌, ◌++◌, length, IfOk, All, Some, slice_get, remove};
+ghost use Rattle.std.specs.List.{range_with_len};
+ghost use Rattle.std.specs.Vec.{vec_capacity};
+ghost use Rattle.dpe_handles.specs.Rows.{serial, IsAscending, row_limit};
 
 use crate::row::Row;
 use std::alloc::{AllocError, Global};
@@ -25,22 +27,48 @@ impl Steps {
 }
 
 /// Rows in ascending order of their serials, at most 256. It has room for all of them from the start.
+///
+/// A row stays in its slot as long as it lives. What is moved when one is spent is the slots' numbers, a byte each.
 #[derive(Drop)]
 pub struct Table {
+    // 256 slots, each with a live row or with what was left there.
     rows: Vec<Row>,
+    // The numbers of all slots: first those of the live rows, in order of their serials, then the free ones.
+    order: Vec<u8>,
+    live: usize,
 }
 
 impl Model for Table {
     ghost use Rattle.dpe_handles.specs.declared.row.Row.{Row};
-    ghost use Rattle.dpe_handles.specs.Rows.{IsAscending};
-    ghost use Rattle.std.specs.Prelude.{◌≤◌, List, vec_len};
+    ghost use Rattle.dpe_handles.specs.Rows.{rows_in, IsTable, row_limit};
+    ghost use Rattle.std.specs.Prelude.{◌≤◌, List, take};
     ghost use Rattle.std.specs.Vec.{vec_capacity};
 
     ghost Value = { List Row };
 
-    ghost view = { λ t. t.rows.items };
+    ghost view = { λ t. rows_in t.rows.items (take t.live t.order.items) };
 
-    ghost invariant = { λ t. IsAscending t.rows.items × (vec_len t.rows ≤ 256) × (256 ≤ vec_capacity t.rows) };
+    ghost invariant = { λ t. IsTable t.rows.items t.order.items t.live × (row_limit ≤ vec_capacity t.order) };
+}
+
+// What stands in a slot before its first row.
+const NO_ROW: Row = Row {
+    handle: [0; 16],
+    locality: 0,
+    may_derive: false,
+    place: 0,
+};
+
+// The numbers of all slots, with no room for more.
+fn all_slots(alloc: Global) -> Result<Vec<u8>, AllocError>
+    ensures all { IfOk result (λ v. v.items ≡ range_with_len 0 row_limit) }
+    ensures room { IfOk result (λ v. row_limit ≤ vec_capacity v) }
+{
+    let mut slots = Vec::with_capacity(alloc, MOST_ROWS)?;
+    for slot in 0..MOST_ROWS {
+        slots.push(slot as u8)?;
+    }
+    Ok(slots)
 }
 
 impl Table {
@@ -48,18 +76,22 @@ impl Table {
     pub fn make(alloc: Global) -> Result<Table, AllocError>
         ensures { IfOk result (λ t. t ≡ []) }
     {
+        let rows = vec![in alloc; NO_ROW; MOST_ROWS]?;
+        let order = all_slots(alloc)?;
         Ok(Table {
-            rows: Vec::with_capacity(alloc, MOST_ROWS)?,
+            rows,
+            order,
+            live: 0,
         })
     }
 
     /// The number of rows.
     pub fn len(&self) -> usize
         ensures length { result ≡ length self.now }
-        ensures most { result ≤ 256 }
+        ensures most { result ≤ row_limit }
         ensures ascending { IsAscending self.now }
     {
-        self.rows.len()
+        self.live
     }
 
     /// The row at this place.
@@ -67,7 +99,8 @@ impl Table {
         requires { at < length self.now }
         ensures { slice_get self.now at ≡ Some result.now }
     {
-        &self.rows[at]
+        let slot = self.order[at];
+        &self.rows[slot as usize]
     }
 
     /// Takes the row at this place out. Those behind it move down by one.
@@ -76,17 +109,22 @@ impl Table {
         ensures row { slice_get self.old at ≡ Some result }
         ensures rest { self.new ≡ remove self.old at }
     {
-        self.rows.remove(at)
+        let slot = self.order.remove(at);
+        if self.order.push(slot).is_err() {
+            unreachable!();
+        }
+        self.live -= 1;
+        self.rows[slot as usize]
     }
 
     /// Appends a row, whose serial is greater than each serial in the table. It takes no memory.
     pub fn issue(&mut self, row: Row)
-        requires room { length self.old < 256 }
+        requires room { length self.old < row_limit }
         requires last { All (λ r. serial r.handle < serial row.handle) self.old }
         ensures { self.new ≡ self.old ++ row ∷ [] }
     {
-        if self.rows.push(row).is_err() {
-            unreachable!();
-        }
+        let slot = self.order[self.live];
+        self.rows[slot as usize] = row;
+        self.live += 1;
     }
 }

@@ -1,21 +1,31 @@
-use Rattle.std.proofs.Common.{◌<◌, sym, subst, ap, length, arith, refl}
-use Rattle.std.proofs.lemmas.List.Quantifiers.{all_pairs_remove}
-use Rattle.std.proofs.lemmas.Option.{slice_get_read}
-use Rattle.dpe_handles.specs.Rows.{serial, IsAscending}
+use Rattle.std.proofs.Common.{rules, ◌≡◌, ◌-◌, ◌++◌, ◌∷◌, [], ap, ◌∙◌, length, take, remove, arith}
+use Rattle.dpe_handles.specs.Rows.{rows_in}
+use Rattle.dpe_handles.proofs.Slots.{rows_count, rows_spent, table_spent}
 use Rattle.dpe_handles.proofs.table.Table.spend.Goals as goal
 
 pub invariant_of-self : goal.invariant_of-self
 invariant_of-self c =
-    let r = c.remove.ensures in
-    let i = c.self.invariant in
-    let lt = c.requires in
+    let t = c.self.invariant.0 in
+    let few = t.few in
+    let numbers = t.numbers in
+    let many = rows_count c.self.inside.rows.items c.self.inside.order.items c.self.inside.live (omega arith) in
     let same = ap length c.self.view_is in
-    let length_is = r.len in
-    let capacity_is = r.capacity in
-    (subst IsAscending (sym r.items) (all_pairs_remove (λ a b. serial a.handle < serial b.handle) c.self.inside.rows.items c.args.at (omega arith) i.0), omega arith, omega arith)
+    let lt = c.requires in
+    let moved : c.push.new.self.items ≡ remove c.self.inside.order.items c.args.at ++ c.remove-slot.result ∷ [] = search rules in
+    let room = c.self.invariant.1 in
+    let kept = c.remove-slot.ensures.capacity in
+    let kept_too = c.push.ensures.capacity in
+    (table_spent c.self.inside.rows.items c.self.inside.order.items c.self.inside.live t _ _ c.args.at c.remove-slot.result (omega arith) (omega arith) c.remove-slot.ensures.value moved, omega arith)
 
-pub returns-clause-row : goal.returns-clause-row
-returns-clause-row c =
-    let lt = c.requires in
+pub returns-clause-rest : goal.returns-clause-rest
+returns-clause-rest c =
+    let t = c.self.invariant.0 in
+    let few = t.few in
+    let numbers = t.numbers in
+    let many = rows_count c.self.inside.rows.items c.self.inside.order.items c.self.inside.live (omega arith) in
     let same = ap length c.self.view_is in
-    rw (sym c.self.view_is) (slice_get_read c.self.inside.rows.items _ c.args.at c.remove.result refl (omega arith) c.remove.ensures.value)
+    let lt = c.requires in
+    let moved : c.push.new.self.items ≡ remove c.self.inside.order.items c.args.at ++ c.remove-slot.result ∷ [] = search rules in
+    ap (λ o. rows_in c.self.inside.rows.items (take (c.self.inside.live - 1) o)) moved
+    ∙ rows_spent c.self.inside.rows.items c.self.inside.order.items c.self.inside.live (c.self.inside.live - 1) c.args.at c.remove-slot.result (omega arith) (omega arith) (omega arith)
+    ∙ ap (λ rs. remove rs c.args.at) c.self.view_is
