@@ -1,0 +1,15 @@
+pub mod Counting
+pub mod Climbing
+pub mod Viewed
+pub mod Reading
+pub mod Growing
+pub mod FreeList
+pub mod Room
+pub mod Changing
+pub mod Trimming
+pub mod Releasing
+pub mod Planting
+pub mod Adding
+pub mod Retiring
+pub mod Rooting
+pub mod Told
