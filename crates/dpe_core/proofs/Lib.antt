@@ -1,0 +1,9 @@
+pub mod Births
+pub mod Ending
+pub mod Exits
+pub mod Folding
+pub mod Owned
+pub mod Places
+pub mod PlainLists
+pub mod Views
+pub mod Serials
