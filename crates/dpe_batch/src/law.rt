@@ -1,11 +1,11 @@
 //! That the state stays valid, whatever the tape.
 ghost use Rattle.std.specs.Prelude.{◌^◌, ◌<◌, ℕ, List};
-ghost use Rattle.dpe_model.specs.State.{start, Valid};
-ghost use Rattle.dpe_batch.specs.Answers.{after};
+ghost use Rattle.dpe_model.specs.State.{Valid};
+ghost use Rattle.dpe_batch.specs.Answers.{after, machine_at};
 ghost use Rattle.dpe_batch.specs.Tape.{Item, IsTape};
 
 /// The state after the items of a tape is valid, and so it is after each front of them, which is a tape too.
 pub fn state_stays_valid()
     ensures { (seed : List ℕ) (first : ℕ) (items : List Item) → first < 2 ^ 64 → IsTape items
-        → Valid (after seed (start first) items) }
+        → Valid (after (machine_at seed first) items).state }
 {}

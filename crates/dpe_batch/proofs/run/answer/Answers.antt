@@ -1,4 +1,4 @@
-use Rattle.std.proofs.Common.{◌≡◌, ℕ, List, Option, take, drop, sym, subst}
+use Rattle.std.proofs.Common.{ℕ, List, Option, take, drop, sym, subst}
 use Rattle.std.proofs.lemmas.List.{take-append-drop}
 use Rattle.std.specs.Io.KnownBytes.{Appends}
 use Rattle.dpe_link.specs.Frames.{frame}
@@ -9,6 +9,6 @@ front_of : (a b : Option (List ℕ)) (text : List ℕ) (n : ℕ) → Appends a b
 front_of a b text n given = (take n text, drop n text, sym (take-append-drop n text), given)
 
 pub returns-in-Err-clause-front : goal.returns-in-Err-clause-front
-returns-in-Err-clause-front g c seed =
-    subst (λ (p : List ℕ). AppendsFront (g.K.Sink.bytes c.args.sink.now) (g.K.Sink.bytes c.append_frame.new.sink) (frame p)) (c.execute-len.ensures.reply seed)
+returns-in-Err-clause-front g c =
+    subst (λ (p : List ℕ). AppendsFront (g.K.Sink.bytes c.args.sink.now) (g.K.Sink.bytes c.append_frame.new.sink) (frame p)) c.execute-len.ensures.reply.1
     (front_of (g.K.Sink.bytes c.args.sink.now) (g.K.Sink.bytes c.append_frame.new.sink) (frame (take c.execute-len.result c.execute-len.new.out)) c.in-Err.field-0.written c.in-Err.ensures.fault.1)
