@@ -1,0 +1,11 @@
+pub mod Answering
+pub mod Booking
+pub mod Bytes
+pub mod Decoding
+pub mod Gathering
+pub mod Judging
+pub mod Law
+pub mod PartReads
+pub mod Parts
+pub mod Placing
+pub mod Sending

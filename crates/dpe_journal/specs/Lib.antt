@@ -1,0 +1,11 @@
+pub mod Book
+pub mod BookViews
+pub mod Entries
+pub mod Fields
+pub mod Journal
+pub mod Places
+pub mod Reading
+pub mod Stages
+pub mod Stored
+pub mod Storing
+pub mod Writing

@@ -1,0 +1,31 @@
+//! The history of all that an executor did, stored beside it; and its journal: the entries as bytes, written to a sink and
+//! read back from a source, record by record.
+#![tactic(auto)]
+
+ghost use Rattle.dpe_journal.specs.Journal.{JournalIsOne};
+ghost use Rattle.dpe_journal.specs.Reading.{OneAnswer};
+
+mod book;
+mod decode;
+mod entry;
+mod fields;
+mod records;
+mod storage;
+#[cfg(test)]
+mod tests;
+mod write;
+
+pub use book::Book;
+pub use entry::{Call, Entry};
+pub use records::{Next, RecordFault, Records};
+pub use write::{MAX_RECORDS, SinkFault, write_journal};
+
+/// The bytes of a journal are those of one first serial and of one history.
+pub fn journal_is_one()
+    ensures { JournalIsOne }
+{}
+
+/// Bytes that are read from one place on have one answer, where no read fails.
+pub fn one_answer()
+    ensures { OneAnswer }
+{}
