@@ -1,0 +1,13 @@
+pub mod Lists
+pub mod Numbers
+pub mod Spelling
+pub mod Scripts
+pub mod Digits
+pub mod Places
+pub mod Knowing
+pub mod Settling
+pub mod Fronts
+pub mod Running
+pub mod Taking
+pub mod Asking
+pub mod Shown

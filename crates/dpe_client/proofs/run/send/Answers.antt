@@ -1,0 +1,7 @@
+use Rattle.dpe_link.specs.Frames.{frame}
+use Rattle.dpe_client.proofs.Fronts.{front_of}
+use Rattle.dpe_client.proofs.run.send.Goals as goal
+
+pub returns-in-Err-clause-front : goal.returns-in-Err-clause-front
+returns-in-Err-clause-front g c =
+    front_of (g.L.Sink.bytes c.args.link.now) (g.L.Sink.bytes c.write_frame.new.sink) (frame c.args.payload.now) c.in-Err.field-0.written c.in-Err.ensures.fault.1

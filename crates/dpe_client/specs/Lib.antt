@@ -1,0 +1,12 @@
+pub mod Values
+pub mod Options
+pub mod Acts
+pub mod Grammar
+pub mod Names
+pub mod CodeNames
+pub mod Script
+pub mod CodeScript
+pub mod Meaning
+pub mod CodeValues
+pub mod Answered
+pub mod Run

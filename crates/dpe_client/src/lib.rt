@@ -1,0 +1,26 @@
+//! The client of a DICE Protection Environment: reads a boot script, and checks it whole.
+#![tactic(auto)]
+
+mod act;
+mod answer;
+mod command;
+mod grammar;
+mod names;
+mod options;
+mod run;
+mod script;
+#[cfg(test)]
+mod tests;
+mod text;
+mod value;
+mod values;
+
+pub use act::{Act, Config, Derive, Seal, Sign, Unseal};
+pub use answer::take_answer;
+pub use command::write_act;
+pub use names::Names;
+pub use run::{Cause, ask_on, print};
+pub use script::{Line, Script, ScriptFault, read_script};
+pub use text::Text;
+pub use value::Value;
+pub use values::Values;

@@ -1,0 +1,183 @@
+//! Sends the commands of a script, and prints what comes back.
+ghost use Rattle.std.specs.Prelude.{◌≡◌, ◌≢◌, ◌+◌, ◌<◌, ◌≤◌, ℕ, length, take, slice_index_or, IfOk, IfErr, OnOk, OnErr, MatchResult};
+ghost use Rattle.std.specs.Io.KnownBytes.{Appends, Consumes};
+ghost use Rattle.dpe_io.specs.Causes.{HasCause};
+ghost use Rattle.dpe_link.specs.Frames.{frame};
+ghost use Rattle.dpe_client.specs.Acts.{Act};
+ghost use Rattle.dpe_client.specs.CodeNames.{names_of};
+ghost use Rattle.dpe_client.specs.CodeScript.{line_of, IsLineKnown, IsLineInRange};
+ghost use Rattle.dpe_client.specs.CodeValues.{values_of, IsReady};
+ghost use Rattle.dpe_client.specs.Run.{AppendsFront, told_by, SameCounts, HasNoFrame, NotExchanged, Concludes, NotConcluded, OutputCause, Exchanges, Fails, HasLineCause};
+
+use crate::answer::take_answer;
+use crate::command::write_act;
+use crate::script::Line;
+use crate::values::Values;
+use dpe_io::{Duplex, Failed, Sink};
+use dpe_link::{FrameFault, read_frame, write_frame};
+
+/// Why a script ended before its last line.
+#[derive(Clone, Copy, Debug, PartialEq, Eq)]
+pub enum Cause {
+    /// A link failed.
+    Link,
+    /// What came back is no reply.
+    Reply,
+    /// The output failed.
+    Output,
+}
+
+/// Writes a whole text.
+pub fn print<O: Sink>(out: &mut O, text: &[u8]) -> Result<(), Failed>
+    ensures ok { OnOk result (Appends (O.bytes out.old) (O.bytes out.new) text.now) }
+    ensures front { OnErr result (AppendsFront (O.bytes out.old) (O.bytes out.new) text.now) }
+    ensures cause { HasCause (O.faults out.old) (O.faults out.new) result }
+{
+    let mut written = 0;
+    while written < text.len() {
+        match out.write(&text[written..]) {
+            Ok(count) => written += count,
+            Err(_) => return Err(Failed),
+        }
+    }
+    Ok(())
+}
+
+// Sends the frame of a payload.
+fn send<L: Duplex>(link: &mut L, payload: &[u8]) -> Result<(), Failed>
+    requires { length payload.now ≤ 4096 }
+    ensures ok { OnOk result (Appends (L.Sink.bytes link.old) (L.Sink.bytes link.new) (frame payload.now)) }
+    ensures front { OnErr result (AppendsFront (L.Sink.bytes link.old) (L.Sink.bytes link.new) (frame payload.now)) }
+    ensures cause { HasCause (L.Sink.faults link.old) (L.Sink.faults link.new) result }
+    ensures left { L.Source.left link.new ≡ L.Source.left link.old }
+    ensures reads { L.Source.faults link.new ≡ L.Source.faults link.old }
+{
+    match write_frame(link, payload) {
+        Ok(()) => Ok(()),
+        Err(_) => Err(Failed),
+    }
+}
+
+// Reads the frame that comes back, and says how many bytes its payload has.
+fn receive<L: Duplex>(link: &mut L, room: &mut [u8; 4096]) -> Result<usize, Cause>
+    ensures few { IfOk result (λ count. count ≤ 4096) }
+    ensures taken { IfOk result (λ count. Consumes (L.Source.left link.old) (L.Source.left link.new) (frame (take count room.new))) }
+    ensures fault { IfErr result (λ cause. (act : Act) → HasNoFrame act cause
+        (told_by L.Source.left L.Sink.bytes L.Source.faults L.Sink.faults link.old)
+        (told_by L.Source.left L.Sink.bytes L.Source.faults L.Sink.faults link.new)) }
+    ensures cause { HasLineCause result
+        (told_by L.Source.left L.Sink.bytes L.Source.faults L.Sink.faults link.old)
+        (told_by L.Source.left L.Sink.bytes L.Source.faults L.Sink.faults link.new) 0 0 }
+    ensures bytes { L.Sink.bytes link.new ≡ L.Sink.bytes link.old }
+{
+    match read_frame(link, room) {
+        Ok(Some(len)) => Ok(len),
+        Ok(None) => Err(Cause::Reply),
+        Err(FrameFault::Cut { .. }) => Err(Cause::Reply),
+        Err(FrameFault::TooLong { .. }) => Err(Cause::Reply),
+        Err(FrameFault::ReadFault) => Err(Cause::Link),
+    }
+}
+
+// Sends a payload, and reads what comes back into the same room.
+fn exchange<L: Duplex>(link: &mut L, room: &mut [u8; 4096], len: usize) -> Result<usize, Cause>
+    requires { len ≤ 4096 }
+    ensures few { IfOk result (λ count. count ≤ 4096) }
+    ensures sent { OnOk result (Appends (L.Sink.bytes link.old) (L.Sink.bytes link.new) (frame (take len room.old))) }
+    ensures taken { IfOk result (λ count. Consumes (L.Source.left link.old) (L.Source.left link.new) (frame (take count room.new))) }
+    ensures fault { IfErr result (λ cause. (act : Act) → NotExchanged act (take len room.old) cause
+        (told_by L.Source.left L.Sink.bytes L.Source.faults L.Sink.faults link.old)
+        (told_by L.Source.left L.Sink.bytes L.Source.faults L.Sink.faults link.new)) }
+    ensures cause { HasLineCause result
+        (told_by L.Source.left L.Sink.bytes L.Source.faults L.Sink.faults link.old)
+        (told_by L.Source.left L.Sink.bytes L.Source.faults L.Sink.faults link.new) 0 0 }
+{
+    match send(link, &room[..len]) {
+        Ok(()) => receive(link, room),
+        Err(Failed) => Err(Cause::Link),
+    }
+}
+
+// Takes what came back for a line, and prints the line of text.
+fn conclude<O: Sink>(
+    line: &Line<'_>,
+    payload: &[u8],
+    values: &mut Values<'_>,
+    out: &mut O,
+) -> Result<(), Cause>
+    requires few { length payload.now ≤ 4096 }
+    requires ready { IsReady values.old }
+    requires known { IsLineKnown (names_of values.old.names) line.now }
+    ensures ok { OnOk result (Concludes (line_of line.now) payload.now Appends
+        (values_of values.old) (values_of values.new) (O.bytes out.old) (O.bytes out.new)) }
+    ensures fault { IfErr result (λ cause. NotConcluded cause (line_of line.now) payload.now
+        (values_of values.old) (values_of values.new) (O.bytes out.old) (O.bytes out.new)) }
+    ensures cause { MatchResult result (λ _. O.faults out.new ≡ O.faults out.old) (λ cause. OutputCause cause (O.faults out.old) (O.faults out.new)) }
+    ensures ready { IsReady values.new }
+    ensures names { values.new.names ≡ values.old.names }
+{
+    match take_answer(line, payload, values) {
+        None => Err(Cause::Reply),
+        Some(text) => match print(out, text.bytes()) {
+            Ok(()) => Ok(()),
+            Err(Failed) => Err(Cause::Output),
+        },
+    }
+}
+
+// Sends a line's command on its link, waits for the reply, and prints the line of text.
+fn ask<L: Duplex, O: Sink>(
+    line: &Line<'_>,
+    link: &mut L,
+    values: &mut Values<'_>,
+    out: &mut O,
+) -> Result<(), Cause>
+    requires ready { IsReady values.old }
+    requires known { IsLineKnown (names_of values.old.names) line.now }
+    requires range { IsLineInRange line.now }
+    ensures ok { OnOk result (Exchanges (line_of line.now) Appends (values_of values.old) (values_of values.new)
+        (told_by L.Source.left L.Sink.bytes L.Source.faults L.Sink.faults link.old)
+        (told_by L.Source.left L.Sink.bytes L.Source.faults L.Sink.faults link.new) (O.bytes out.old) (O.bytes out.new)) }
+    ensures fault { IfErr result (λ cause. Fails cause (line_of line.now) (values_of values.old) (values_of values.new)
+        (told_by L.Source.left L.Sink.bytes L.Source.faults L.Sink.faults link.old)
+        (told_by L.Source.left L.Sink.bytes L.Source.faults L.Sink.faults link.new) (O.bytes out.old) (O.bytes out.new)) }
+    ensures cause { HasLineCause result
+        (told_by L.Source.left L.Sink.bytes L.Source.faults L.Sink.faults link.old)
+        (told_by L.Source.left L.Sink.bytes L.Source.faults L.Sink.faults link.new) (O.faults out.old) (O.faults out.new) }
+    ensures ready { IsReady values.new }
+    ensures names { values.new.names ≡ values.old.names }
+{
+    let mut room = [0; 4096];
+    let len = write_act(&line.act, values, &mut room);
+    match exchange(link, &mut room, len) {
+        Ok(len) => conclude(line, &room[..len], values, out),
+        Err(cause) => Err(cause),
+    }
+}
+
+/// Sends a line's command on its link, waits for the reply, and prints the line of text.
+pub fn ask_on<L: Duplex, O: Sink>(
+    line: &Line<'_>,
+    links: &mut [L],
+    values: &mut Values<'_>,
+    out: &mut O,
+) -> Result<(), Cause>
+    requires link { line.now.link < length links.old }
+    requires ready { IsReady values.old }
+    requires known { IsLineKnown (names_of values.old.names) line.now }
+    requires range { IsLineInRange line.now }
+    ensures ok { OnOk result ((d : L) → Exchanges (line_of line.now) Appends (values_of values.old) (values_of values.new)
+        (told_by L.Source.left L.Sink.bytes L.Source.faults L.Sink.faults (slice_index_or links.old line.now.link d))
+        (told_by L.Source.left L.Sink.bytes L.Source.faults L.Sink.faults (slice_index_or links.new line.now.link d)) (O.bytes out.old) (O.bytes out.new)) }
+    ensures fault { IfErr result (λ cause. (d : L) → Fails cause (line_of line.now) (values_of values.old) (values_of values.new)
+        (told_by L.Source.left L.Sink.bytes L.Source.faults L.Sink.faults (slice_index_or links.old line.now.link d))
+        (told_by L.Source.left L.Sink.bytes L.Source.faults L.Sink.faults (slice_index_or links.new line.now.link d)) (O.bytes out.old) (O.bytes out.new)) }
+    ensures cause { (d : L) → HasLineCause result
+        (told_by L.Source.left L.Sink.bytes L.Source.faults L.Sink.faults (slice_index_or links.old line.now.link d))
+        (told_by L.Source.left L.Sink.bytes L.Source.faults L.Sink.faults (slice_index_or links.new line.now.link d)) (O.faults out.old) (O.faults out.new) }
+    ensures others { (k : ℕ) (d : L) → (line.now.link ≡ k → ⊥) → slice_index_or links.new k d ≡ slice_index_or links.old k d }
+    ensures ready { IsReady values.new }
+    ensures names { values.new.names ≡ values.old.names }
+{
+    ask(line, &mut links[usize::from(line.link)], values, out)
+}
