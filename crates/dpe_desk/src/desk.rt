@@ -54,7 +54,7 @@ pub struct Desk<O: Sequential> {
 }
 
 impl<O: Sequential> Model for Desk<O> {
-    ghost use Rattle.std.specs.Prelude.{◌≡◌};
+    ghost use Rattle.std.specs.Prelude.{◌≡◌, ◌≤◌};
     ghost use Rattle.dpe_desk.specs.Passes.{DeskView};
     ghost use Rattle.dpe_desk.specs.Rule.{terms_of};
 
@@ -62,7 +62,8 @@ impl<O: Sequential> Model for Desk<O> {
 
     ghost view = { λ d. record { desk = d.table.shared.table_id; terms = terms_of O.kind O.entries d.table.shared.key } };
 
-    ghost invariant = { λ d. (d.table.shared.table_id.words ≡ 3) × (d.table.shared.table_id.slots ≡ 1) × (d.capacity ≡ d.table.shared.key.capacity) };
+    ghost invariant = { λ d. (d.table.shared.table_id.words ≡ 3) × (d.table.shared.table_id.slots ≡ 1)
+        × (d.capacity ≡ d.table.shared.key.capacity) × (d.capacity ≤ 65536) };
 }
 
 impl<O: Sequential> Desk<O> {
@@ -111,6 +112,14 @@ impl<O: Sequential> Desk<O> {
                 Err(NoMemory { object })
             }
         }
+    }
+
+    /// The most entries that the history can have.
+    pub fn capacity(&self) -> u64
+        ensures capacity { result ≡ self.now.terms.capacity }
+        ensures most { result ≤ 65536 }
+    {
+        self.capacity
     }
 
     fn cut<M: Stake>(&self, seat: &mut Place<O>, stake: u32) -> Place<O>
