@@ -9,3 +9,4 @@ pub mod PartReads
 pub mod Parts
 pub mod Placing
 pub mod Sending
+pub mod Sharing

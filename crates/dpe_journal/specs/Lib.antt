@@ -5,6 +5,7 @@ pub mod Fields
 pub mod Journal
 pub mod Places
 pub mod Reading
+pub mod Shared
 pub mod Stages
 pub mod Stored
 pub mod Storing

@@ -10,6 +10,7 @@ mod decode;
 mod entry;
 mod fields;
 mod records;
+mod shared;
 mod storage;
 #[cfg(test)]
 mod tests;
