@@ -5,6 +5,7 @@ use Rattle.std.proofs.lemmas.List.{map-append}
 use Rattle.dpe_desk.specs.declared.sequential.Entry.{Entry}
 use Rattle.dpe_model.specs.History as history
 use Rattle.dpe_model.specs.History.{Legal}
+use Rattle.dpe_model.specs.Laws.{HandleLaws}
 use Rattle.dpe_model.specs.State.{start}
 use Rattle.dpe_model.proofs.Runs.{legal_front}
 use Rattle.dpe_journal.specs.BookViews.{BookView}
@@ -27,6 +28,10 @@ entry_in e = entry_from e.caller e.call e.reply
 -- the calls are a legal history from the book's seed and first serial on
 abbrev pub IsLegalFor : BookView → List Shared → Type 0
 IsLegalFor book es = Legal book.seed book.first (map entry_in es)
+
+-- and the laws of handles and boxes hold of them
+abbrev pub HandleLawsFor : BookView → List Shared → Type 0
+HandleLawsFor book es = HandleLaws book.seed book.first (map entry_in es)
 
 pub legal_prefix : (book : BookView) (xs ys : List Shared) → IsLegalFor book (xs ++ ys) → IsLegalFor book xs
 legal_prefix book xs ys legal =

@@ -19,6 +19,7 @@ mod write;
 pub use book::Book;
 pub use entry::{Call, Entry};
 pub use records::{Next, RecordFault, Records};
+pub use shared::seen_is_legal;
 pub use write::{MAX_RECORDS, SinkFault, write_journal};
 
 /// The bytes of a journal are those of one first serial and of one history.

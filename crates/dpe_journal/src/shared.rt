@@ -1,11 +1,13 @@
 //! The book as an object that threads share in turns.
 ghost use Rattle.std.specs.Prelude.{◌-◌, [], length, map};
-ghost use Rattle.dpe_journal.specs.Shared.{shared_from, IsLegalFor, legal_prefix};
+ghost use Rattle.dpe_desk.specs.Passes.{Belongs};
+ghost use Rattle.dpe_journal.specs.Shared.{shared_from, IsLegalFor, HandleLawsFor, legal_prefix};
 
 use crate::book::Book;
 use crate::entry::Call;
-use dpe_desk::Sequential;
+use dpe_desk::{Desk, Pass, Sequential};
 use dpe_io::Packet;
+use dpe_model::handle_laws;
 
 // The kind is the seed, the first serial and the capacity: the book with the empty history.
 impl Sequential for Book {
@@ -34,4 +36,15 @@ impl Sequential for Book {
     }
 
     ghost legal_prefix = { λ kind xs ys. legal_prefix kind xs ys };
+}
+
+/// Does nothing. Its contract tells what holds of every pass over a book, after each call: what it has seen is a legal
+/// history from the book's seed and first serial on, and the laws of handles hold of it.
+pub fn seen_is_legal(desk: &Desk<Book>, pass: &Pass<Book>)
+    requires { Belongs desk.now pass.now }
+    ensures legal { IsLegalFor desk.now.terms.kind pass.now.view.seen }
+    ensures handles { HandleLawsFor desk.now.terms.kind pass.now.view.seen }
+{
+    let _name = pass.name();
+    handle_laws();
 }
