@@ -1,0 +1,20 @@
+//! The real outside: houses, shelves and docks over files, Unix sockets and `/dev/urandom`. They tell nothing of content;
+//! that the system does what std says of it is trusted.
+#![tactic(auto)]
+
+mod ahead;
+mod dock;
+mod door;
+mod house;
+mod link;
+mod openings;
+mod shelf;
+mod urandom;
+
+pub use ahead::{AHEAD, ReadAhead};
+pub use dock::FileDock;
+pub use door::UnixDoor;
+pub use house::UnixHouse;
+pub use link::UnixLink;
+pub use shelf::FileShelf;
+pub use urandom::Urandom;
