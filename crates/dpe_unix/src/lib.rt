@@ -9,6 +9,8 @@ mod house;
 mod link;
 mod openings;
 mod shelf;
+#[cfg(test)]
+mod tests;
 mod urandom;
 
 pub use ahead::{AHEAD, ReadAhead};
