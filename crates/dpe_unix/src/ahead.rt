@@ -63,13 +63,8 @@ impl<R: Read> ReadAhead<R> {
         }
         self.start = 0;
         self.end = 0;
-        match self.reader.read(&mut self.room) {
-            Ok(count) => {
-                self.end = count;
-                Ok(())
-            }
-            Err(error) => Err(error),
-        }
+        self.end = self.reader.read(&mut self.room)?;
+        Ok(())
     }
 
     // Moves as many bytes as are held and have room.
@@ -92,9 +87,7 @@ impl<R: Read> Read for ReadAhead<R> {
         ensures bytes { ReadConsumes (prepend_known self.old.held (R.remaining self.old.inner))
             (prepend_known self.new.held (R.remaining self.new.inner)) result room.new }
     {
-        match self.fill() {
-            Ok(()) => Ok(self.give(room)),
-            Err(error) => Err(error),
-        }
+        self.fill()?;
+        Ok(self.give(room))
     }
 }

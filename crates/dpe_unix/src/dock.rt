@@ -46,10 +46,7 @@ impl<R: Files<File = File> + Net + Drop> FileDock<R> {
 fn connect<R: Net>(rt: &R, path: &str) -> io::Result<UnixLink>
     ensures { IfOk result IsFaultless }
 {
-    match UnixStream::connect(rt, path) {
-        Ok(stream) => Ok(UnixLink::new(stream)),
-        Err(error) => Err(error),
-    }
+    Ok(UnixLink::new(UnixStream::connect(rt, path)?))
 }
 
 impl<R: Files<File = File> + Net + Drop> Dock for FileDock<R> {

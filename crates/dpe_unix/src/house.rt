@@ -70,30 +70,21 @@ fn create_journal<R: Files<File = File>>(rt: &R, path: &str) -> io::Result<Write
 {
     let mut options = OpenOptions::new();
     options.write(true).create_new(true).mode(JOURNAL_MODE);
-    match options.open(rt, path) {
-        Ok(file) => Ok(WriteSink::new(file)),
-        Err(error) => Err(error),
-    }
+    Ok(WriteSink::new(options.open(rt, path)?))
 }
 
 // An entropy over the system's random bytes.
 fn open_entropy<R: Files<File = File>>(rt: &R) -> io::Result<Urandom>
     ensures { IfOk result (λ entropy. entropy ≡ 0) }
 {
-    match File::open(rt, RANDOM_FILE) {
-        Ok(file) => Ok(Urandom::new(file)),
-        Err(error) => Err(error),
-    }
+    Ok(Urandom::new(File::open(rt, RANDOM_FILE)?))
 }
 
 // A door whose socket is made at this path. It fails where a file stands there.
 fn bind_door<R: Files<File = File> + Net>(rt: &R, path: &str) -> io::Result<UnixDoor>
     ensures { IfOk result (λ door. door.faults ≡ 0) }
 {
-    match UnixListener::bind(rt, path) {
-        Ok(listener) => Ok(UnixDoor::new(listener)),
-        Err(error) => Err(error),
-    }
+    Ok(UnixDoor::new(UnixListener::bind(rt, path)?))
 }
 
 impl<R: Files<File = File> + Net + Drop> House for UnixHouse<R> {

@@ -92,10 +92,7 @@ impl Openings {
 pub(crate) fn open_source<R: Files<File = File>>(rt: &R, path: &str) -> io::Result<ReadSource<File>>
     ensures { IfOk result (λ source. source.faults ≡ 0) }
 {
-    match File::open(rt, path) {
-        Ok(file) => Ok(ReadSource::new(file)),
-        Err(error) => Err(error),
-    }
+    Ok(ReadSource::new(File::open(rt, path)?))
 }
 
 impl<R: Read> Counted for ReadSource<R> {

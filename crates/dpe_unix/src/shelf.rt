@@ -42,10 +42,7 @@ impl<R: Files<File = File> + Drop> FileShelf<R> {
 fn open_ahead<R: Files<File = File>>(rt: &R, path: &str) -> io::Result<ReadSource<ReadAhead<File>>>
     ensures { IfOk result (λ source. source.faults ≡ 0) }
 {
-    match File::open(rt, path) {
-        Ok(file) => Ok(ReadSource::new(ReadAhead::new(file))),
-        Err(error) => Err(error),
-    }
+    Ok(ReadSource::new(ReadAhead::new(File::open(rt, path)?)))
 }
 
 impl<R: Files<File = File> + Drop> Shelf for FileShelf<R> {
