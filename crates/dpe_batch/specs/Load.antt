@@ -1,8 +1,8 @@
 -- The commands of a load, each made of ten draws and of what the replies before it gave.
-use Rattle.std.specs.Prelude.{ℕ, zero, suc, ◌+◌, ◌/◌, ◌%◌, ◌==◌, Bool, true, false, List, [], ◌∷◌, ◌++◌, replicate, nat_le, Some, None, if◌then◌else◌}
+use Rattle.std.specs.Prelude.{ℕ, zero, suc, ◌+◌, ◌/◌, ◌%◌, ◌==◌, ◌&&◌, Bool, true, false, List, [], ◌∷◌, ◌++◌, replicate, nat_le, Some, None, if◌then◌else◌}
 use Rattle.std.specs.Int.{to_be_bytes, w64}
 use Rattle.dpe_messages.specs.Request.{Request, DeriveRequest, SignRequest, SealRequest, UnsealRequest, get_profile, initialize, derive, sign, seal, unseal, rotate, destroy, inline}
-use Rattle.dpe_messages.specs.Replies.{Response, refused, profile, handle, derived, made, done}
+use Rattle.dpe_messages.specs.Replies.{Response, refused, profile, handle, derived, made, done, code_of}
 use Rattle.dpe_messages.specs.CommandRows.{command_payload}
 use Rattle.dpe_messages.specs.declared.reply_reader.Asked.{Asked}
 use Rattle.dpe_messages.specs.declared.reply_reader.Asked.TheVariants as asked
@@ -90,6 +90,18 @@ asked_of (unseal u) = asked.Unseal
 asked_of (rotate named) = asked.Rotate
 asked_of (destroy named recursive) = asked.Destroy
 
+abbrev pub asked_by : Act → Asked
+asked_by Initialize = asked.Initialize
+asked_by Derive = asked.Derive
+asked_by DeriveAway = asked.Derive
+asked_by Rotate = asked.Rotate
+asked_by Sign = asked.Sign
+asked_by Seal = asked.Seal
+asked_by Unseal = asked.Unseal
+asked_by Destroy = asked.Destroy
+asked_by RotateSpent = asked.Rotate
+asked_by Profile = asked.GetProfile
+
 -- the caller's locality
 abbrev pub locality_for : Act → ℕ → ℕ
 locality_for Initialize near = 0
@@ -112,29 +124,43 @@ pub record Stock : Type 0 where
   pub last_box : List ℕ
   pub spent : List ℕ
 
+-- no handle, the empty box, and 16 zeros
+abbrev pub first_stock : Stock
+first_stock = record { pool = []; last_box = []; spent = no_handle }
+
 -- a picked pair whose handle a command spent
 abbrev pub without_spent : Stock → ℕ → Stock
 without_spent s b = record { pool = without_picked s.pool b; last_box = s.last_box; spent = (picked s.pool b).handle }
 
 -- a command of code 0 spends the picked handle, if it names it
 abbrev pub after_spending : Act → Response → Stock → ℕ → Stock
-after_spending act (refused code) s b = s
-after_spending act response s b = if names_picked act then without_spent s b else s
+after_spending act response s b = if code_of response == 0 && names_picked act then without_spent s b else s
 
--- the handles of a reply in the order of their keys: a child is at its target locality, the root at 0 and any other
--- at the picked locality
+-- the locality of a new handle that is no child's: the root is at 0, any other at the picked locality
+abbrev pub locality_of_new : Act → ℕ → ℕ
+locality_of_new Initialize near = 0
+locality_of_new act near = near
+
+-- the handles of a reply in the order of their keys; a child is at its target locality
 abbrev pub with_handles : Act → Response → ℕ → ℕ → List Pair → List Pair
 with_handles act (refused code) near b pool = pool
 with_handles act profile near b pool = pool
-with_handles Initialize (handle new) near b pool = with_pair pool (pair new 0)
-with_handles act (handle new) near b pool = with_pair pool (pair new near)
+with_handles act (handle new) near b pool = with_pair pool (pair new (locality_of_new act near))
 with_handles act (derived child parent) near b pool = with_if (with_pair pool (pair child (target b))) parent near
 with_handles act (made new bytes) near b pool = with_if pool new near
 with_handles act done near b pool = pool
 
+-- what Seal makes is a box
+abbrev pub makes_box : Act → Bool
+makes_box Seal = true
+makes_box act = false
+
+abbrev pub box_in : Response → List ℕ → List ℕ
+box_in (made new bytes) last_box = bytes
+box_in response last_box = last_box
+
 abbrev pub box_after : Act → Response → List ℕ → List ℕ
-box_after Seal (made new bytes) last_box = bytes
-box_after act response last_box = last_box
+box_after act response last_box = if makes_box act then box_in response last_box else last_box
 
 abbrev pub stock_after : Act → Response → Stock → ℕ → Stock
 stock_after act response s b =
@@ -162,24 +188,28 @@ abbrev pub load_at : ℕ → Load
 load_at n = record {
   begun = false;
   number = n;
-  stock = record { pool = []; last_box = []; spent = no_handle };
+  stock = first_stock;
   machine = machine_at (load_seed n) 1;
 }
 
 -- the first command is InitializeContext, whatever was drawn
+abbrev pub act_for : Bool → ℕ → Act
+act_for begun x = if begun then act_of (choice_of x) else Initialize
+
 abbrev pub act_at : Load → Act
-act_at l = if l.begun then act_of (choice_of l.number) else Initialize
+act_at l = act_for l.begun l.number
 
-abbrev pub picked_at : Load → Pair
-picked_at l = picked l.stock.pool (argument_of l.number)
+-- the command with the argument b, over what earlier replies gave
+abbrev pub command_for : Act → Stock → ℕ → Request
+command_for act s b = request_for act (picked s.pool b).handle b s.last_box s.spent
 
-abbrev pub request_at : Load → Request
-request_at l = request_for (act_at l) (picked_at l).handle (argument_of l.number) l.stock.last_box l.stock.spent
+-- the step of the sequential DPE for it, with these random bytes
+abbrev pub outcome_for : Machine → Stock → Act → List ℕ → ℕ → Outcome
+outcome_for M s act random b =
+    step M.seed M.state (locality_for act (picked s.pool b).locality) random (command_payload (command_for act s b))
 
--- the step of the sequential DPE
 abbrev pub outcome_at : Load → Outcome
-outcome_at l =
-    step l.machine.seed l.machine.state (locality_for (act_at l) (picked_at l).locality) (random_of l.number) (command_payload (request_at l))
+outcome_at l = outcome_for l.machine l.stock (act_at l) (random_of l.number) (argument_of l.number)
 
 abbrev pub next : Load → Load
 next l = record {

@@ -25,7 +25,7 @@ code_line code count =
     if count == 0 then [] else line (codes "code " ++ decimal code ++ codes " " ++ decimal count)
 
 -- the lines of the codes below a number, in ascending order
-abbrev pub code_lines : ℕ → List Response → List ℕ
+unfoldable pub code_lines : ℕ → List Response → List ℕ
 code_lines zero rs = []
 code_lines (suc code) rs = code_lines code rs ++ code_line code (count_of code rs)
 
@@ -33,11 +33,14 @@ code_lines (suc code) rs = code_lines code rs ++ code_line code (count_of code r
 abbrev pub reply_frames : List Response → List ℕ
 reply_frames rs = flat_map (λ r. frame (reply_payload r)) rs
 
+abbrev pub digest_line : List ℕ → List ℕ
+digest_line digest = line (codes "digest " ++ encode_lower digest)
+
 abbrev pub told_text : ℕ → List Response → List ℕ
 told_text commands rs =
     line (codes "commands " ++ decimal commands)
     ++ code_lines code_bound rs
-    ++ line (codes "digest " ++ encode_lower (sha512 (reply_frames rs)))
+    ++ digest_line (sha512 (reply_frames rs))
 
 -- the text of the load that begins with the number n and has so many commands
 abbrev pub load_text : ℕ → ℕ → List ℕ

@@ -2,10 +2,10 @@
 ghost use Rattle.std.specs.Prelude.{◌≡◌, ◌≤◌, false, length, take};
 ghost use Rattle.dpe_messages.specs.CommandRows.{command_payload};
 ghost use Rattle.dpe_messages.specs.Request.{derive, sign, seal, unseal, destroy};
-ghost use Rattle.dpe_batch.specs.Load.{act_of, request_for, locality_for, names_picked, derivation, signing, sealing, unsealing, filled};
+ghost use Rattle.dpe_batch.specs.Load.{act_of, request_for, asked_by, locality_for, locality_of_new, names_picked, makes_box, derivation, signing, sealing, unsealing, filled};
 
 use crate::draws::eight_times;
-use dpe_messages::{Command, Config, Derive, Seal, Sign, Unseal, write_command};
+use dpe_messages::{Asked, Command, Config, Derive, Seal, Sign, Unseal, write_command};
 
 /// What a command does.
 #[derive(Clone, Copy, Debug, PartialEq, Eq)]
@@ -68,6 +68,60 @@ impl Act {
     {
         if self.names_picked() { near } else { 0 }
     }
+
+    /// The locality of a new handle that is no child's, where the picked handle's is given.
+    pub fn locality_of_new(self, near: u8) -> u8
+        ensures { result ≡ locality_of_new self near }
+    {
+        match self {
+            Act::Initialize => 0,
+            Act::Derive => near,
+            Act::DeriveAway => near,
+            Act::Rotate => near,
+            Act::Sign => near,
+            Act::Seal => near,
+            Act::Unseal => near,
+            Act::Destroy => near,
+            Act::RotateSpent => near,
+            Act::Profile => near,
+        }
+    }
+
+    /// Whether what it makes is a box.
+    pub fn makes_box(self) -> bool
+        ensures { result ≡ makes_box self }
+    {
+        match self {
+            Act::Initialize => false,
+            Act::Derive => false,
+            Act::DeriveAway => false,
+            Act::Rotate => false,
+            Act::Sign => false,
+            Act::Seal => true,
+            Act::Unseal => false,
+            Act::Destroy => false,
+            Act::RotateSpent => false,
+            Act::Profile => false,
+        }
+    }
+
+    /// The command that its reply answers.
+    pub fn asked(self) -> Asked
+        ensures { result ≡ asked_by self }
+    {
+        match self {
+            Act::Initialize => Asked::Initialize,
+            Act::Derive => Asked::Derive,
+            Act::DeriveAway => Asked::Derive,
+            Act::Rotate => Asked::Rotate,
+            Act::Sign => Asked::Sign,
+            Act::Seal => Asked::Seal,
+            Act::Unseal => Asked::Unseal,
+            Act::Destroy => Asked::Destroy,
+            Act::RotateSpent => Asked::Rotate,
+            Act::Profile => Asked::GetProfile,
+        }
+    }
 }
 
 // An input of 64 equal bytes.
@@ -114,12 +168,7 @@ fn write_derive<'a>(
 }
 
 // Writes a derivation with the inputs that a number gives.
-fn write_derivation(
-    handle: &[u8; 16],
-    argument: u32,
-    retain: bool,
-    room: &mut [u8; 4096],
-) -> usize
+fn write_derivation(handle: &[u8; 16], argument: u32, retain: bool, room: &mut [u8; 4096]) -> usize
     ensures within { result ≤ 4096 }
     ensures written { take result room.new ≡ command_payload (derive (derivation handle.now argument retain)) }
 {

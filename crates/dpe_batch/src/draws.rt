@@ -5,6 +5,7 @@ ghost use Rattle.dpe_batch.specs.Draws.{next_number, number_after, draw, random_
 
 /// The factor and the summand of the next number.
 const FACTOR: u64 = 6_364_136_223_846_793_005;
+
 const SUMMAND: u64 = 1_442_695_040_888_963_407;
 
 /// The number that the draws begin with, or that the last one left.

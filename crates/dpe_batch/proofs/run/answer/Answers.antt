@@ -1,12 +1,8 @@
-use Rattle.std.proofs.Common.{ℕ, List, Option, take, drop, sym, subst}
-use Rattle.std.proofs.lemmas.List.{take-append-drop}
-use Rattle.std.specs.Io.KnownBytes.{Appends}
+use Rattle.std.proofs.Common.{ℕ, List, take, subst}
 use Rattle.dpe_link.specs.Frames.{frame}
 use Rattle.dpe_batch.specs.Reading.{AppendsFront}
+use Rattle.dpe_batch.proofs.Fronts.{front_of}
 use Rattle.dpe_batch.proofs.run.answer.Goals as goal
-
-front_of : (a b : Option (List ℕ)) (text : List ℕ) (n : ℕ) → Appends a b (take n text) → AppendsFront a b text
-front_of a b text n given = (take n text, drop n text, sym (take-append-drop n text), given)
 
 pub returns-in-Err-clause-front : goal.returns-in-Err-clause-front
 returns-in-Err-clause-front g c =
