@@ -1,5 +1,5 @@
 -- The commands of a load are in their ranges, and each is answered with a reply to it.
-use Rattle.std.proofs.Common.{◌≡◌, ℕ, zero, suc, ◌+◌, ◌*◌, ◌%◌, ◌≤◌, Bool, true, false, List, [], ◌∷◌, ◌++◌, length, replicate, refl, sym, ap, subst, ◌∙◌, arith}
+use Rattle.std.proofs.Common.{◌≡◌, ℕ, zero, suc, ◌+◌, ◌*◌, ◌%◌, ◌≤◌, Bool, true, false, List, length, refl, sym, subst, arith}
 use Rattle.std.specs.Int.{to_be_bytes, w32}
 use Rattle.std.proofs.lemmas.List.{length-append, length-replicate}
 use Rattle.dpe_messages.specs.Request.{Request}
@@ -11,7 +11,7 @@ use Rattle.dpe_batch.specs.declared.act.Act.{Act}
 use Rattle.dpe_batch.specs.declared.act.Act.TheVariants.{Initialize, Derive, DeriveAway, Rotate, Sign, Seal, Unseal, Destroy, RotateSpent, Profile}
 use Rattle.dpe_batch.specs.Draws.{repeated}
 use Rattle.dpe_batch.specs.Pool.{picked}
-use Rattle.dpe_batch.specs.Load.{Stock, filled, message, derivation, request_for, asked_of, asked_by, locality_for, command_for, outcome_for}
+use Rattle.dpe_batch.specs.Load.{Stock, filled, derivation, request_for, asked_of, asked_by, locality_for, command_for, outcome_for}
 use Rattle.dpe_batch.proofs.Replied.{replied}
 
 length-repeated : (n word : ℕ) → length (repeated n word) ≡ 4 * n

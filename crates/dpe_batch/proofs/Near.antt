@@ -1,6 +1,5 @@
 -- The pairs of a load's pool have localities of callers.
-use Rattle.std.proofs.Common.{◌≡◌, ℕ, zero, suc, ◌<◌, ◌≤◌, ◌%◌, Bool, true, false, cond, List, [], ◌∷◌, ◌++◌, length, take, drop, get_or, Option, Some, None, ◌==◌, ◌&&◌, arith}
-use Rattle.std.specs.List.{All, remove}
+use Rattle.std.proofs.Common.{ℕ, zero, suc, ◌≤◌, ◌%◌, true, false, cond, List, [], ◌∷◌, ◌++◌, length, take, drop, Option, Some, None, ◌==◌, ◌&&◌, arith}
 use Rattle.std.proofs.Math.Nat.{mod-lt}
 use Rattle.std.proofs.lemmas.List.Elements.{All-append, All-nil, All-drop, All-take}
 use Rattle.dpe_messages.specs.Replies.{Response, refused, profile, handle, derived, made, done, code_of}

@@ -1,5 +1,5 @@
 -- A load under way in the program.
-use Rattle.std.specs.Prelude.{ℕ, ◌≤◌, List}
+use Rattle.std.specs.Prelude.{◌≤◌, List}
 use Rattle.std.specs.List.{All}
 use Rattle.dpe_model.specs.State.{Machine}
 use Rattle.dpe_model.specs.Step.{Outcome}

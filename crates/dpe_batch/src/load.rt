@@ -6,6 +6,7 @@ ghost use Rattle.dpe_batch.specs.Load.{act_for, asked_by, load_seed, load_at, ou
 ghost use Rattle.dpe_batch.specs.LoadText.{load_text};
 ghost use Rattle.dpe_batch.specs.Progress.{AreNear, load_of, outcome_of};
 ghost use Rattle.dpe_batch.specs.Tally.{IsTally};
+ghost use Rattle.dpe_batch.specs.Words.{command_limit};
 
 use crate::act::{Act, chosen, write_act};
 use crate::draws::Draws;
@@ -112,7 +113,7 @@ fn execute(core: &mut Core, stock: &Stock, drawn: &Drawn, out: &mut [u8; 4096]) 
 // The reply that a payload is.
 fn reply_in<'a>(act: Act, payload: &'a [u8]) -> Reply<'a>
     requires { (r : Response) × IsReplyTo (asked_by act) r payload.now }
-    ensures reply { (r : Response) → IsReplyTo (asked_by act) r payload.entry.now → response_of result ≡ r }
+    ensures reply { (r : Response) → IsReplyTo (asked_by act) r payload.now → response_of result ≡ r }
     ensures writable { IsWritable result }
 {
     match read_reply(&act.asked(), payload) {
@@ -139,7 +140,7 @@ impl Progress {
     fn turn(&mut self, tally: &mut Tally)
         requires { AreNear self.old.stock.pool.items }
         ensures next { load_of self.new ≡ next (load_of self.old) }
-        ensures told { (rs : List Response) → length rs < 65536
+        ensures told { (rs : List Response) → length rs < command_limit
             → IsTally tally.old rs → IsTally tally.new (rs ++ (outcome_at (load_of self.old)).reply ∷ []) }
     {
         let drawn = draw(&mut self.draws, self.begun);
@@ -156,7 +157,7 @@ impl Progress {
 /// The text of a load. The memory of its executor is taken before the first command, and that of the text after the
 /// last.
 pub fn text_of_load(alloc: Global, load: &Load) -> Result<String, AllocError>
-    requires { load.now.commands ≤ 65536 }
+    requires { load.now.commands ≤ command_limit }
     ensures { IfOk result (λ text. string_bytes text ≡ load_text load.now.number load.now.commands) }
 {
     let mut progress = Progress::begin(alloc, load.number)?;

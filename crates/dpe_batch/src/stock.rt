@@ -140,7 +140,7 @@ fn keep_box(last_box: &mut ArrayVec<u8, MAX_BOX>, reply: &Reply<'_>)
 
 // Puts bytes in the place of the last box.
 fn put_box(last_box: &mut ArrayVec<u8, MAX_BOX>, bytes: &[u8])
-    requires { length bytes.now ≤ 2133 }
+    requires { length bytes.now ≤ MAX_BOX }
     ensures { last_box.new.items ≡ bytes.now }
 {
     last_box.clear();

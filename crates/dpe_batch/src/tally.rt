@@ -5,6 +5,7 @@ ghost use Rattle.dpe_link.specs.Frames.{frame};
 ghost use Rattle.dpe_messages.specs.Replies.{Response, IsWritable, response_of, reply_payload, code_of};
 ghost use Rattle.dpe_batch.specs.LoadText.{code_bound, code_line, code_lines, digest_line, told_text};
 ghost use Rattle.dpe_batch.specs.Tally.{HasCounts, IsTally};
+ghost use Rattle.dpe_batch.specs.Words.{command_limit};
 
 use dpe_messages::Reply;
 use sha2::{Digest, Sha512};
@@ -36,8 +37,8 @@ pub struct Tally {
 
 // Counts one more reply with the code.
 fn count(counts: &mut [u32; CODE_BOUND], code: u8)
-    requires { code < 28 }
-    ensures { (rs : List Response) (r : Response) → code ≡ code_of r → length rs < 65536
+    requires { code < CODE_BOUND }
+    ensures { (rs : List Response) (r : Response) → code ≡ code_of r → length rs < command_limit
         → HasCounts counts.old rs → HasCounts counts.new (rs ++ r ∷ []) }
 {
     let at = code as usize;
@@ -99,7 +100,7 @@ impl Tally {
         requires writable { IsWritable reply.now }
         requires payload { payload.now ≡ reply_payload (response_of reply.now) }
         requires len { length payload.now ≤ 4096 }
-        ensures { (rs : List Response) → length rs < 65536
+        ensures { (rs : List Response) → length rs < command_limit
             → IsTally self.old rs → IsTally self.new (rs ++ response_of reply.now ∷ []) }
     {
         count(&mut self.counts, code(reply));

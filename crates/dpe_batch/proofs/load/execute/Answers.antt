@@ -1,4 +1,4 @@
-use Rattle.std.proofs.Common.{rules, ◌≡◌, ◌≤◌, ℕ, List, length, take, sym, ap, ◌∙◌, arith}
+use Rattle.std.proofs.Common.{rules, ◌≡◌, ◌≤◌, length, take, sym, ap, ◌∙◌, arith}
 use Rattle.dpe_messages.specs.Replies.{reply_payload}
 use Rattle.dpe_batch.specs.declared.pool.Pair.{Pair}
 use Rattle.dpe_batch.specs.Load.{outcome_for}

@@ -1,7 +1,6 @@
 use Rattle.std.proofs.Common.{◌≡◌, ℕ, List, ap, sym, subst, string_bytes, arith}
 use Rattle.std.proofs.lemmas.Result.{IfOk-weaker}
 use Rattle.dpe_messages.specs.Replies.{Response}
-use Rattle.dpe_batch.specs.declared.pool.Pair.{Pair}
 use Rattle.dpe_batch.specs.Load.{Load, load_at, replies}
 use Rattle.dpe_batch.specs.LoadText.{told_text, load_text}
 use Rattle.dpe_batch.specs.Progress.{AreNear, load_of}

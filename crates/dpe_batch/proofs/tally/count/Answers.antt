@@ -1,4 +1,4 @@
-use Rattle.std.proofs.Common.{◌≡◌, ◌+◌, ◌<◌, ◌≤◌, ℕ, get_or, length, arith}
+use Rattle.std.proofs.Common.{◌≡◌, ◌+◌, get_or, arith}
 use Rattle.dpe_batch.proofs.Tallied.{counts_more, counted}
 use Rattle.dpe_batch.proofs.tally.count.Goals as goal
 

@@ -1,4 +1,4 @@
-use Rattle.std.proofs.Common.{get_or, string_bytes, refl, arith}
+use Rattle.std.proofs.Common.{get_or, string_bytes, arith}
 use Rattle.dpe_batch.proofs.Tallied.{no_lines, lines_more, all_lines}
 use Rattle.dpe_batch.proofs.tally.push_codes.Goals as goal
 

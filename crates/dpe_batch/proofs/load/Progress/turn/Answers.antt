@@ -1,4 +1,4 @@
-use Rattle.std.proofs.Common.{◌≡◌, List, [], ◌∷◌, ◌++◌, subst}
+use Rattle.std.proofs.Common.{◌≡◌, [], ◌∷◌, ◌++◌, subst}
 use Rattle.dpe_messages.specs.Replies.{Response, response_of}
 use Rattle.dpe_batch.specs.Load.{outcome_for}
 use Rattle.dpe_batch.specs.Progress.{load_of}
