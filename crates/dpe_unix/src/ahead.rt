@@ -1,4 +1,4 @@
-ghost use Rattle.std.specs.Prelude.{◌≡◌, ◌≤◌, min, length, [], ◌++◌, take, drop, slice_range, IfOk, OnOk};
+ghost use Rattle.std.specs.Prelude.{◌≡◌, ◌<◌, min, length, [], ◌++◌, take, IsOk, OnOk};
 ghost use Rattle.std.specs.Io.{ReadsAtMost};
 ghost use Rattle.std.specs.Io.KnownBytes.{Keeps, ReadConsumes, IsAtEnd, prepend_known};
 
@@ -9,7 +9,7 @@ use std::marker::Model;
 pub const AHEAD: usize = 32_768;
 
 /// A reader that asks the one beneath for many bytes at once, and holds them in a room of its own until they are asked for. It
-/// takes no memory.
+/// fails only where none is held, and takes no memory.
 #[derive(Drop)]
 pub struct ReadAhead<R: Read> {
     reader: R,
@@ -57,6 +57,7 @@ impl<R: Read> ReadAhead<R> {
         ensures bytes { Keeps (prepend_known self.old.held (R.remaining self.old.inner))
             (prepend_known self.new.held (R.remaining self.new.inner)) }
         ensures end { OnOk result (self.new.held ≡ [] → IsAtEnd (R.remaining self.new.inner)) }
+        ensures held { 0 < length self.old.held → IsOk result }
     {
         if self.start < self.end {
             return Ok(());
@@ -86,6 +87,7 @@ impl<R: Read> Read for ReadAhead<R> {
         ensures bound { ReadsAtMost result room.new }
         ensures bytes { ReadConsumes (prepend_known self.old.held (R.remaining self.old.inner))
             (prepend_known self.new.held (R.remaining self.new.inner)) result room.new }
+        ensures held { 0 < length self.old.held → IsOk result }
     {
         self.fill()?;
         Ok(self.give(room))

@@ -1,6 +1,6 @@
 ghost use Rattle.std.specs.Prelude.{◌≡◌, ◌+◌, ◌≤◌, None, IfOk, IfSome, IsSome};
 ghost use Rattle.dpe_io.specs.Causes.{HasCause, CountsOne};
-ghost use Rattle.dpe_io.specs.Told.{GivesNext, CountsOut};
+ghost use Rattle.dpe_io.specs.Told.{CountsOut};
 ghost use Rattle.dpe_unix.specs.Counts.{IsFaultless};
 
 use crate::link::UnixLink;

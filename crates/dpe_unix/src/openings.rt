@@ -1,4 +1,4 @@
-ghost use Rattle.std.specs.Prelude.{◌≡◌, ℕ, ◌<◌, ◌≤◌, ◌↔◌, ◌⊎◌, Ok, IfOk, IsErr, IsTrue};
+ghost use Rattle.std.specs.Prelude.{◌≡◌, ℕ, ◌≤◌, ◌↔◌, ◌⊎◌, Ok, IfOk, IsErr, IsTrue};
 ghost use Rattle.dpe_io.specs.Causes.{CountsOne};
 ghost use Rattle.dpe_io.specs.Memory.{CountsBack};
 ghost use Rattle.dpe_io.specs.Told.{IsOpening, Returns};
