@@ -1,0 +1,23 @@
+-- A pass over several calls.
+use Rattle.std.proofs.Common.{◌≡◌, ℕ, ◌≤◌, List, Some, refl, ap, ◌∙◌, arith}
+use Rattle.dpe_desk.specs.Passes.{PassView, Grows, own_name, first_of}
+use Rattle.dpe_desk.proofs.Lists.{prefix_self, prefix_trans}
+
+module _ {K C R : Type 0} where
+  pub grows_self : (p : PassView K C R) → Grows p p
+  grows_self p = record { desk = refl; terms = refl; seen = prefix_self p.view.seen; known = omega arith; full = λ t h. h }
+
+  pub grows_both : (p q r : PassView K C R) → Grows p q → Grows q r → Grows p r
+  grows_both p q r g h =
+      let a = g.known in
+      let b = h.known in
+      record {
+        desk = h.desk ∙ g.desk;
+        terms = h.terms ∙ g.terms;
+        seen = prefix_trans p.view.seen q.view.seen r.view.seen g.seen h.seen;
+        known = omega arith;
+        full = λ t k. h.full t (g.full t k);
+      }
+
+  pub name_stays : (p q : PassView K C R) → q.view.names ≡ p.view.names → own_name q.view ≡ own_name p.view
+  name_stays p q same = ap first_of same

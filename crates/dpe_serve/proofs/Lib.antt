@@ -1,0 +1,7 @@
+pub mod Calls
+pub mod Growing
+pub mod Outputs
+pub mod Serving
+pub mod StepLemmas
+pub mod Stopping
+pub mod Visiting

@@ -1,0 +1,9 @@
+//! Connections served in order: each frame that comes in is one command, made as one call of the shared book, and the reply
+//! goes back as a frame.
+#![tactic(auto)]
+
+mod connection;
+mod room;
+
+pub use connection::{End, serve_connection};
+pub use room::Room;
