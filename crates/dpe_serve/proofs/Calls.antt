@@ -8,9 +8,9 @@ use Rattle.dpe_desk.specs.Entries.{made_by}
 use Rattle.dpe_model.specs.History.{Entry, entries_of_connection}
 use Rattle.dpe_journal.specs.Shared.{Shared, entry_in}
 use Rattle.dpe_serve.specs.Passes.{history_of}
-use Rattle.dpe_serve.specs.Visits.{IsOn}
+use Rattle.dpe_serve.specs.ServedBy.{IsOn}
 
-abbrev on_connection : ℕ → List Entry → List Entry
+abbrev pub on_connection : ℕ → List Entry → List Entry
 on_connection connection entries = filter (λ (e : Entry). e.connection == connection) entries
 
 -- by whether the first call is the caller's, and whether its connection is this
@@ -25,13 +25,13 @@ one_call true false call connection found calls is h =
     h ∙ ap (λ (t : Bool). cond t (entry_in call ∷ on_connection connection (map entry_in calls)) (on_connection connection (map entry_in calls))) (sym is)
 
 -- the entries of a connection stand among those of its caller
-of_caller : (caller connection : ℕ) (calls : List Shared) → entries_of_connection (history_of calls) caller connection ≡ on_connection connection (history_of (made_by caller calls))
+pub of_caller : (caller connection : ℕ) (calls : List Shared) → entries_of_connection (history_of calls) caller connection ≡ on_connection connection (history_of (made_by caller calls))
 of_caller caller connection [] = refl
 of_caller caller connection (call ∷ calls) =
     one_call (call.caller == caller) (call.call.connection == connection) call connection (entries_of_connection (history_of calls) caller connection) (made_by caller calls) refl (of_caller caller connection calls)
 
 -- all entries of a connection are found
-all_found : (caller connection : ℕ) (entries : List Entry) → AllByRecursion (IsOn caller connection) entries → entries_of_connection entries caller connection ≡ entries
+pub all_found : (caller connection : ℕ) (entries : List Entry) → AllByRecursion (IsOn caller connection) entries → entries_of_connection entries caller connection ≡ entries
 all_found caller connection [] ours = refl
 all_found caller connection (e ∷ es) ours =
     let test : ((e.caller == caller) && (e.connection == connection)) ≡ true = found e.caller e.connection ours.0.0 ours.0.1 in

@@ -1,5 +1,6 @@
 -- A pass over several calls.
-use Rattle.std.proofs.Common.{◌≡◌, ℕ, ◌≤◌, List, Some, refl, ap, ◌∙◌, arith}
+use Rattle.std.proofs.Common.{◌≡◌, ℕ, ◌<◌, ◌≤◌, List, Some, refl, ap, sym, subst, ◌∙◌, arith}
+use Rattle.dpe_desk.specs.Entries.{times}
 use Rattle.dpe_desk.specs.Passes.{PassView, Grows, own_name, first_of}
 use Rattle.dpe_desk.proofs.Lists.{prefix_self, prefix_trans}
 
@@ -21,3 +22,8 @@ module _ {K C R : Type 0} where
 
   pub name_stays : (p q : PassView K C R) → q.view.names ≡ p.view.names → own_name q.view ≡ own_name p.view
   name_stays p q same = ap first_of same
+
+  -- the pass's own name is one of its names
+  pub own_stays : (p q : PassView K C R) (name : ℕ) → name ≡ own_name p.view → 0 < times name p.view.names → q.view.names ≡ p.view.names → 0 < times (own_name q.view) q.view.names
+  own_stays p q name is own same =
+      subst (λ (ns : List ℕ). 0 < times (first_of ns) ns) (sym same) (subst (λ (m : ℕ). 0 < times m p.view.names) is own)

@@ -5,3 +5,4 @@ pub mod Serving
 pub mod StepLemmas
 pub mod Stopping
 pub mod Visiting
+pub mod Working

@@ -16,7 +16,7 @@ use Rattle.dpe_serve.specs.Passes.{Seat, MadeJust, history_of}
 use Rattle.dpe_serve.specs.Served.{output, AnswerInOrder}
 use Rattle.dpe_serve.specs.Steps.{Receives}
 use Rattle.dpe_serve.specs.Turns.{Answers}
-use Rattle.dpe_serve.specs.Visits.{IsOn}
+use Rattle.dpe_serve.specs.ServedBy.{IsOn}
 use Rattle.dpe_serve.proofs.Outputs.{output_more, frames_more, answers_more, all_more}
 
 -- the random bytes of the entries were drawn, in order

@@ -15,12 +15,12 @@ use Rattle.dpe_model.specs.History.{Entry}
 use Rattle.dpe_journal.specs.Entries.{Sent, entry_from}
 use Rattle.dpe_serve.specs.Conn.{Conn, KeepsCounts}
 use Rattle.dpe_serve.specs.Drawn.{AreDrawn, Draws}
-use Rattle.dpe_serve.specs.Endings.{Ending, ending_of, closed, cut, too_long, read_fault, entropy_fault, full, reply_fault, refusal_fault, unanswered, HasEntropyCause}
+use Rattle.dpe_serve.specs.Endings.{Ending, ending_of, closed, cut, too_long, read_fault, entropy_fault, full, reply_fault, refusal_fault, unanswered, HasEntropyCause, words_more, KeepsTicket}
 use Rattle.dpe_serve.specs.Passes.{Seat, MadeJust, history_of}
 use Rattle.dpe_serve.specs.Served.{journal_full, output, all_but_last, IsRest, Faults, Writes}
 use Rattle.dpe_serve.specs.Steps.{Receives, ReadsNoFrame, ReceivesNone, Sends, SendsFront}
 use Rattle.dpe_serve.specs.Turns.{MeetsFull, AnswersPart, AnswersNone}
-use Rattle.dpe_serve.specs.Visits.{Visits, words_more, KeepsTicket}
+use Rattle.dpe_serve.specs.ServedBy.{ServedBy}
 use Rattle.dpe_serve.specs.declared.connection.End.{End}
 use Rattle.dpe_serve.proofs.StepLemmas.{unreceived}
 use Rattle.dpe_serve.proofs.Outputs.{output_more, output_refused, all_but_last_more, some_more, front_behind, front_before, answers_before, all_more}
@@ -68,7 +68,7 @@ draws_one entries words left then random h d = (random ∷ [], refl, told_more w
 module _ (caller connection locality index capacity : ℕ) (v w : Seat) (old now : Conn) (words left : Option (List (List ℕ))) (s : Serving caller connection locality index v w old now words left) where
   -- no frame was read
   stops_reading : (next : Conn) (ending : Ending) → unanswered ending ≡ 0 → words_more ending ≡ 0 → Writes ending s.entries (output s.entries 0) → ReadsNoFrame ending now next
-      → Visits caller connection capacity locality ending v w old next words left
+      → ServedBy caller connection capacity locality ending v w old next words left
   stops_reading next ending none drawn writes n =
       let many = s.many in
       let all = s.all in
@@ -96,7 +96,7 @@ module _ (caller connection locality index capacity : ℕ) (v w : Seat) (old now
       }
 
   -- a frame was read, and no word drawn
-  stops_drawing : (next : Conn) (payload : List ℕ) → Receives now next payload → Visits caller connection capacity locality entropy_fault v w old next words left
+  stops_drawing : (next : Conn) (payload : List ℕ) → Receives now next payload → ServedBy caller connection capacity locality entropy_fault v w old next words left
   stops_drawing next payload r =
       let many = s.many in
       let all = s.all in
@@ -126,7 +126,7 @@ module _ (caller connection locality index capacity : ℕ) (v w : Seat) (old now
 
   -- the pass met a full journal, and the refusal was written
   stops_full : (w' : Seat) (mid next : Conn) (then : Option (List (List ℕ))) (random payload : List ℕ) (ticket : ℕ) → Receives now mid payload → DrawsWord left then random
-      → MeetsFull capacity ticket w w' → Sends mid next (frame (refusal journal_full)) → Visits caller connection capacity locality (full ticket) v w' old next words then
+      → MeetsFull capacity ticket w w' → Sends mid next (frame (refusal journal_full)) → ServedBy caller connection capacity locality (full ticket) v w' old next words then
   stops_full w' mid next then random payload ticket r draws m sends =
       let many = s.many in
       let all = s.all in
@@ -157,7 +157,7 @@ module _ (caller connection locality index capacity : ℕ) (v w : Seat) (old now
 
   -- and a write of it failed
   stops_refusing : (w' : Seat) (mid next : Conn) (then : Option (List (List ℕ))) (random payload : List ℕ) (ticket : ℕ) → Receives now mid payload → DrawsWord left then random
-      → MeetsFull capacity ticket w w' → SendsFront mid next (frame (refusal journal_full)) → Visits caller connection capacity locality refusal_fault v w' old next words then
+      → MeetsFull capacity ticket w w' → SendsFront mid next (frame (refusal journal_full)) → ServedBy caller connection capacity locality refusal_fault v w' old next words then
   stops_refusing w' mid next then random payload ticket r draws m sends =
       let many = s.many in
       let all = s.all in
@@ -193,7 +193,7 @@ module _ (caller connection locality index capacity : ℕ) (v w : Seat) (old now
   -- the call was made, and a write of its reply failed
   stops_replying : (w' : Seat) (mid next : Conn) (then : Option (List (List ℕ))) (sent : Sent) (random payload : List ℕ)
       → Next caller connection locality index v w old now words left s sent random payload → Receives now mid payload → DrawsWord left then random
-      → AnswersPart w w' sent mid next → Visits caller connection capacity locality reply_fault v w' old next words then
+      → AnswersPart w w' sent mid next → ServedBy caller connection capacity locality reply_fault v w' old next words then
   stops_replying w' mid next then sent random payload n r draws a =
       let many = s.many in
       let all = s.all in
@@ -230,7 +230,7 @@ module _ (caller connection locality index capacity : ℕ) (v w : Seat) (old now
       }
 
   -- no command was received
-  stops_receiving : (next : Conn) (ending : Ending) → ReceivesNone ending now next → Visits caller connection capacity locality ending v w old next words left
+  stops_receiving : (next : Conn) (ending : Ending) → ReceivesNone ending now next → ServedBy caller connection capacity locality ending v w old next words left
   stops_receiving next closed n = stops_reading next closed refl refl refl n
   stops_receiving next (cut have) n = stops_reading next (cut have) refl refl refl n
   stops_receiving next (too_long told) n = stops_reading next (too_long told) refl refl refl n
@@ -242,10 +242,10 @@ module _ (caller connection locality index capacity : ℕ) (v w : Seat) (old now
 
   -- the same by the end that is answered
   pub stopped_receiving : (next : Conn) (end : End) (then : Option (List (List ℕ))) → ReceivesNone (ending_of end None) now next → then ≡ left
-      → Visits caller connection capacity locality (ending_of end w.full) v w old next words then
+      → ServedBy caller connection capacity locality (ending_of end w.full) v w old next words then
   stopped_receiving next end then n same =
-      subst (λ (ending : Ending). Visits caller connection capacity locality ending v w old next words then) (unreceived end w.full now next n)
-      (subst (λ (o : Option (List (List ℕ))). Visits caller connection capacity locality (ending_of end None) v w old next words o) (sym same) (stops_receiving next (ending_of end None) n))
+      subst (λ (ending : Ending). ServedBy caller connection capacity locality ending v w old next words then) (unreceived end w.full now next n)
+      (subst (λ (o : Option (List (List ℕ))). ServedBy caller connection capacity locality (ending_of end None) v w old next words o) (sym same) (stops_receiving next (ending_of end None) n))
 
   ticket_unseen : (next : Conn) (ending : Ending) → ReceivesNone ending now next → KeepsTicket ending v.full w.full
   ticket_unseen next closed n = s.ticket
@@ -264,7 +264,7 @@ module _ (caller connection locality index capacity : ℕ) (v w : Seat) (old now
   -- a command was received, and got no whole reply of its own
   pub stops_answering : (w' : Seat) (mid next : Conn) (then : Option (List (List ℕ))) (sent : Sent) (random payload : List ℕ) (ending : Ending)
       → Next caller connection locality index v w old now words left s sent random payload → Receives now mid payload → DrawsWord left then random
-      → AnswersNone ending capacity w w' sent mid next → Visits caller connection capacity locality ending v w' old next words then
+      → AnswersNone ending capacity w w' sent mid next → ServedBy caller connection capacity locality ending v w' old next words then
   stops_answering w' mid next then sent random payload closed n r d a = absurd a
   stops_answering w' mid next then sent random payload (cut have) n r d a = absurd a
   stops_answering w' mid next then sent random payload (too_long told) n r d a = absurd a

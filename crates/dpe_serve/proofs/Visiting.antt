@@ -8,7 +8,7 @@ use Rattle.dpe_journal.specs.Shared.{IsLegalFor}
 use Rattle.dpe_serve.specs.Conn.{Conn}
 use Rattle.dpe_serve.specs.Endings.{Ending}
 use Rattle.dpe_serve.specs.Passes.{Seat, history_of, entries_on, made_on}
-use Rattle.dpe_serve.specs.Visits.{Visits}
+use Rattle.dpe_serve.specs.ServedBy.{ServedBy}
 use Rattle.dpe_serve.proofs.Calls.{all_seen}
 
 -- the name is the pass's own
@@ -18,7 +18,7 @@ pub record IsNamed (v w : Seat) (name : ℕ) : Type 0 where
   pub names : w.names ≡ v.names
 
 module _ (connection capacity locality name : ℕ) (ending : Ending) (v w : Seat) (before after : Conn) (words left : Option (List (List ℕ)))
-    (x : Visits (own_name v) connection capacity locality ending v w before after words left) where
+    (x : ServedBy (own_name v) connection capacity locality ending v w before after words left) where
   seen_are : IsNamed v w name → Sound IsLegalFor w → made_on v connection ≡ [] → entries_on w connection ≡ x.entries
   seen_are n sound unused =
       let caller : ℕ = own_name v in

@@ -1,5 +1,5 @@
 -- How a connection ends.
-use Rattle.std.specs.Prelude.{ℕ, ◌≡◌, Bool, true, false, Option, Some, None}
+use Rattle.std.specs.Prelude.{ℕ, ◌≡◌, Bool, true, false, Option, Some, None, IsSome, if◌then◌else◌}
 use Rattle.dpe_io.specs.Causes.{Rose}
 use Rattle.dpe_serve.specs.declared.connection.End.{End}
 use Rattle.dpe_serve.specs.declared.connection.End.TheVariants as ends
@@ -52,6 +52,37 @@ is_told_full (full ticket) = true
 is_told_full reply_fault = false
 is_told_full refusal_fault = true
 
+-- it ended with Full; with anything but Closed and Full; since no random bytes could be drawn
+abbrev pub is_full : Ending → Bool
+is_full closed = false
+is_full (cut have) = false
+is_full (too_long told) = false
+is_full read_fault = false
+is_full entropy_fault = false
+is_full (full ticket) = true
+is_full reply_fault = false
+is_full refusal_fault = false
+
+abbrev pub is_cut : Ending → Bool
+is_cut closed = false
+is_cut (cut have) = true
+is_cut (too_long told) = true
+is_cut read_fault = true
+is_cut entropy_fault = true
+is_cut (full ticket) = false
+is_cut reply_fault = true
+is_cut refusal_fault = true
+
+abbrev pub is_entropy_fault : Ending → Bool
+is_entropy_fault closed = false
+is_entropy_fault (cut have) = false
+is_entropy_fault (too_long told) = false
+is_entropy_fault read_fault = false
+is_entropy_fault entropy_fault = true
+is_entropy_fault (full ticket) = false
+is_entropy_fault reply_fault = false
+is_entropy_fault refusal_fault = false
+
 -- the count of the entropy rose where that was the end, and is else as before
 abbrev pub HasEntropyCause : Ending → ℕ → ℕ → Type 0
 HasEntropyCause closed before now = now ≡ before
@@ -62,3 +93,18 @@ HasEntropyCause entropy_fault before now = Rose before now
 HasEntropyCause (full ticket) before now = now ≡ before
 HasEntropyCause reply_fault before now = now ≡ before
 HasEntropyCause refusal_fault before now = now ≡ before
+
+-- how many words were drawn for commands that have no entry
+abbrev pub words_more : Ending → ℕ
+words_more ending = if is_told_full ending then 1 else 0
+
+-- The ticket that the pass keeps, which it met at or over the capacity: a new one only where the connection was told.
+abbrev pub KeepsTicket : Ending → Option ℕ → Option ℕ → Type 0
+KeepsTicket closed old new = new ≡ old
+KeepsTicket (cut have) old new = new ≡ old
+KeepsTicket (too_long told) old new = new ≡ old
+KeepsTicket read_fault old new = new ≡ old
+KeepsTicket entropy_fault old new = new ≡ old
+KeepsTicket (full ticket) old new = new ≡ Some ticket
+KeepsTicket reply_fault old new = new ≡ old
+KeepsTicket refusal_fault old new = IsSome new

@@ -5,4 +5,5 @@ pub mod Passes
 pub mod Served
 pub mod Steps
 pub mod Turns
-pub mod Visits
+pub mod ServedBy
+pub mod Workers

@@ -7,12 +7,12 @@ ghost use Rattle.dpe_desk.specs.Views.{Sound};
 ghost use Rattle.dpe_journal.specs.Shared.{IsLegalFor};
 ghost use Rattle.dpe_serve.specs.Conn.{told_by};
 ghost use Rattle.dpe_serve.specs.Drawn.{Draws};
-ghost use Rattle.dpe_serve.specs.Endings.{ending_of, HasEntropyCause};
+ghost use Rattle.dpe_serve.specs.Endings.{ending_of, words_more, KeepsTicket, HasEntropyCause};
 ghost use Rattle.dpe_serve.specs.Passes.{MadeJust, made_on, entries_on};
 ghost use Rattle.dpe_serve.specs.Served.{Served};
 ghost use Rattle.dpe_serve.specs.Steps.{Receives, ReadsNone, ReceivesNone, Sends, SendsFront, Refuses};
 ghost use Rattle.dpe_serve.specs.Turns.{Answers, AnswersNone, CountsMore};
-ghost use Rattle.dpe_serve.specs.Visits.{Visits, words_more, KeepsTicket};
+ghost use Rattle.dpe_serve.specs.ServedBy.{ServedBy};
 
 use crate::room::{Buffers, Room};
 use dpe_desk::{Desk, Pass};
@@ -167,7 +167,7 @@ fn serve_commands<R: Wait, C: Duplex, E: Entropy>(
     requires sound { Sound IsLegalFor pass.old.view }
     ensures pass { Grows pass.old pass.new }
     ensures same { (pass.new.view.names ≡ pass.old.view.names) × (pass.new.view.stake ≡ pass.old.view.stake) }
-    ensures visits { Visits (own_name pass.old.view) connection desk.now.terms.capacity locality
+    ensures served { ServedBy (own_name pass.old.view) connection desk.now.terms.capacity locality
         (ending_of result pass.new.view.full) pass.old.view pass.new.view
         (told_by C.Source.left C.Sink.bytes C.Source.faults C.Sink.faults conn.old)
         (told_by C.Source.left C.Sink.bytes C.Source.faults C.Sink.faults conn.new)
@@ -227,6 +227,7 @@ pub fn serve_connection<R: Wait, C: Duplex, E: Entropy>(
         (words_more (ending_of result pass.new.view.full)) (E.words entropy.old) (E.words entropy.new) }
     ensures cause { HasEntropyCause (ending_of result pass.new.view.full) (E.faults entropy.old) (E.faults entropy.new) }
 {
+    // These tell that the pass has seen just what it made under its name, and that the index has room.
     let _name = pass.name();
     let _most = desk.capacity();
     serve_commands(

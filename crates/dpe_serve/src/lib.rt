@@ -4,6 +4,8 @@
 
 mod connection;
 mod room;
+mod worker;
 
 pub use connection::{End, serve_connection};
 pub use room::Room;
+pub use worker::{Tally, Worker, serve_worker};

@@ -21,8 +21,8 @@ loop-len-init g c =
       sound = c.requires.sound;
     }
 
-pub returns-in-Err-clause-visits : goal.returns-in-Err-clause-visits
-returns-in-Err-clause-visits g c =
+pub returns-in-Err-clause-served : goal.returns-in-Err-clause-served
+returns-in-Err-clause-served g c =
     let told = told_by g.C.Source.left g.C.Sink.bytes g.C.Source.faults g.C.Sink.faults in
     stopped_receiving (own_name c.args.pass.now.view) c.args.connection c.args.locality c.loop-len.index c.args.desk.now.terms.capacity c.args.pass.now.view c.loop-len.pass.view
     (told c.args.conn.now) (told c.loop-len.conn) (g.E.Entropy.words c.args.entropy.now) (g.E.Entropy.words c.loop-len.entropy) c.loop-len.invariant.serving
@@ -47,8 +47,8 @@ loop-len-preserved g c =
       sound = c.answer.ensures.sound;
     }
 
-pub returns-in-Some-clause-visits : goal.returns-in-Some-clause-visits
-returns-in-Some-clause-visits g c =
+pub returns-in-Some-clause-served : goal.returns-in-Some-clause-served
+returns-in-Some-clause-served g c =
     let told = told_by g.C.Source.left g.C.Sink.bytes g.C.Source.faults g.C.Sink.faults in
     let i = c.loop-len.invariant in
     stops_answering (own_name c.args.pass.now.view) c.args.connection c.args.locality c.loop-len.index c.args.desk.now.terms.capacity c.args.pass.now.view c.loop-len.pass.view
