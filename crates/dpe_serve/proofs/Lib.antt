@@ -1,5 +1,6 @@
 pub mod Calls
 pub mod Growing
+pub mod Observing
 pub mod Outputs
 pub mod Serving
 pub mod StepLemmas

@@ -93,7 +93,7 @@ module _ (caller connection locality index : ℕ) (v w : Seat) (old now : Conn) 
   read_more mid next payload r same =
       subst (λ (t : List ℕ). Consumes old.left next.left t) (sym (frames_more s.payloads payload))
       (Consumes-trans old.left now.left next.left (flat_map frame s.payloads) (frame payload) s.read
-          (subst (λ (o : Option (List ℕ)). Consumes now.left o (frame payload)) (sym same) r.read))
+      (subst (λ (o : Option (List ℕ)). Consumes now.left o (frame payload)) (sym same) r.read))
 
   -- and this text was written
   pub written_more : (mid next : Conn) (payload text : List ℕ) → Receives now mid payload → Appends mid.written next.written text → Appends old.written next.written (output s.entries 0 ++ text)

@@ -14,12 +14,13 @@ use Rattle.dpe_io.specs.Told.{IfTold, Lists, later, GoesOut, ComesBack}
 use Rattle.dpe_model.specs.History.{Entry, entries_of_connection}
 use Rattle.dpe_journal.specs.Shared.{IsLegalFor}
 use Rattle.dpe_serve.specs.Conn.{Conn}
-use Rattle.dpe_serve.specs.Drawn.{AreDrawn, Draws}
+use Rattle.dpe_serve.specs.Drawn.{Random, AreDrawn, Draws}
 use Rattle.dpe_serve.specs.Endings.{Ending, closed, cut, too_long, read_fault, entropy_fault, full, reply_fault, refusal_fault, ending_of, is_told_full, is_full, is_cut, is_entropy_fault, words_more, KeepsTicket, HasEntropyCause}
 use Rattle.dpe_serve.specs.Passes.{Seat, MadeJust, history_of, entries_on, made_on}
 use Rattle.dpe_serve.specs.Served.{AnswerInOrder, Served}
 use Rattle.dpe_serve.specs.ServedBy.{IsOn}
-use Rattle.dpe_serve.specs.Workers.{Visit, IsFrom, RoseBy, Passes, IsFaultless, AllServed, QuietOnceFull, ended, ServesDoor}
+use Rattle.dpe_serve.specs.Workers.{Visit, IsFrom, RoseBy, GoThrough, IsFaultless, AllServed, QuietOnceFull, ended, ServesDoor}
+use Rattle.dpe_serve.specs.declared.worker.Tally.{Tally}
 use Rattle.dpe_serve.specs.declared.connection.End.{End}
 use Rattle.dpe_serve.specs.declared.connection.End.TheVariants as ends
 use Rattle.dpe_serve.proofs.Calls.{of_caller, on_connection, all_found}
@@ -136,29 +137,29 @@ module _ {C : Type 0} where
   ended_more test [] v = omega (arith, ended-cons test v [])
   ended_more test (x ∷ xs) v = omega (arith, ended_more test xs v, ended-cons test x xs, ended-cons test x (xs ++ v ∷ []))
 
-  passes_more : (visits : List (Visit C)) (v : Visit C) (a b mid c : Lists C) → Passes visits a b → (b.waiting ≡ v.before ∷ mid.waiting) × (mid.ended ≡ b.ended) → (c.waiting ≡ mid.waiting) × (c.ended ≡ mid.ended ++ v.after ∷ [])
-      → Passes (visits ++ v ∷ []) a c
-  passes_more visits v a b mid c p out back =
+  through_more : (visits : List (Visit C)) (v : Visit C) (a b mid c : Lists C) → GoThrough visits a b → (b.waiting ≡ v.before ∷ mid.waiting) × (mid.ended ≡ b.ended) → (c.waiting ≡ mid.waiting) × (c.ended ≡ mid.ended ++ v.after ∷ [])
+      → GoThrough (visits ++ v ∷ []) a c
+  through_more visits v a b mid c p out back =
       let B : Visit C → C = λ (x : Visit C). x.before in
       let A : Visit C → C = λ (x : Visit C). x.after in (
         p.0
-        ∙ (ap (λ (w : List C). map B visits ++ w) (out.0 ∙ ap (λ (w : List C). v.before ∷ w) (sym back.0))
-        ∙ (sym (append_assoc (map B visits) (v.before ∷ []) c.waiting) ∙ ap (λ (w : List C). w ++ c.waiting) (sym (map-append B visits (v ∷ []))))),
+            ∙ (ap (λ (w : List C). map B visits ++ w) (out.0 ∙ ap (λ (w : List C). v.before ∷ w) (sym back.0))
+            ∙ (sym (append_assoc (map B visits) (v.before ∷ []) c.waiting) ∙ ap (λ (w : List C). w ++ c.waiting) (sym (map-append B visits (v ∷ []))))),
         back.1
-        ∙ (ap (λ (w : List C). w ++ v.after ∷ []) (out.1 ∙ p.1)
-        ∙ (append_assoc a.ended (map A visits) (v.after ∷ []) ∙ ap (λ (w : List C). a.ended ++ w) (sym (map-append A visits (v ∷ []))))),
+            ∙ (ap (λ (w : List C). w ++ v.after ∷ []) (out.1 ∙ p.1)
+            ∙ (append_assoc a.ended (map A visits) (v.after ∷ []) ∙ ap (λ (w : List C). a.ended ++ w) (sym (map-append A visits (v ∷ []))))),
       )
 
-  passes_told : (visits : List (Visit C)) (v : Visit C) (a b mid c : Option (Lists C)) → IfTold (Passes visits) a b → GoesOut b v.before mid → ComesBack mid v.after c → IfTold (Passes (visits ++ v ∷ [])) a c
-  passes_told visits v None b mid c p out back = tt
-  passes_told visits v (Some a) None mid c p out back = absurd p
-  passes_told visits v (Some a) (Some b) None c p out back = absurd out
-  passes_told visits v (Some a) (Some b) (Some m) None p out back = absurd back
-  passes_told visits v (Some a) (Some b) (Some m) (Some c) p out back = passes_more visits v a b m c p out back
+  through_told : (visits : List (Visit C)) (v : Visit C) (a b mid c : Option (Lists C)) → IfTold (GoThrough visits) a b → GoesOut b v.before mid → ComesBack mid v.after c → IfTold (GoThrough (visits ++ v ∷ [])) a c
+  through_told visits v None b mid c p out back = tt
+  through_told visits v (Some a) None mid c p out back = absurd p
+  through_told visits v (Some a) (Some b) None c p out back = absurd out
+  through_told visits v (Some a) (Some b) (Some m) None p out back = absurd back
+  through_told visits v (Some a) (Some b) (Some m) (Some c) p out back = through_more visits v a b m c p out back
 
-  passes_none : (a : Option (Lists C)) → IfTold (Passes []) a a
-  passes_none None = tt
-  passes_none (Some a) = (refl, sym (append-nil a.ended))
+  through_none : (a : Option (Lists C)) → IfTold (GoThrough []) a a
+  through_none None = tt
+  through_none (Some a) = (refl, sym (append-nil a.ended))
 
 -- ## Words and counts
 
@@ -195,8 +196,8 @@ draws_more xs ys many more words mid left h k none =
       h.0 ++ k.0,
       omega (arith, length-append h.0 k.0),
       subst (λ (w : List (List ℕ)). IfTold (λ ws ls. AreDrawn ws w ls) words left)
-      (words_in_order xs ys h.0 k.0 (λ some. none (omega arith)))
-      (told-append words mid left (map R xs ++ h.0) (map R ys ++ k.0) h.2 k.2),
+          (words_in_order xs ys h.0 k.0 (λ some. none (omega arith)))
+          (told-append words mid left (map R xs ++ h.0) (map R ys ++ k.0) h.2 k.2),
     )
 
 -- nothing was drawn
@@ -259,7 +260,7 @@ cut_of_end ends.EntropyFault kept = refl
 -- the connections below a number were served, by a pass that made nothing else
 pub record Working {C : Type 0} (tell : C → Conn) (capacity name locality connections : ℕ) (w : Seat) (old now : Option (Lists C)) (words left : Option (List (List ℕ))) (before faults fulls cuts : ℕ) : Type 0 where
   pub visits : List (Visit C)
-  pub passes : IfTold (Passes visits) old now
+  pub through : IfTold (GoThrough visits) old now
   pub number : length visits ≡ connections
   pub faultless : AllByRecursion (IsFaultless tell) visits
   pub served : AllServed tell capacity locality (made_on w) 0 visits
@@ -275,7 +276,7 @@ pub working_start : {C : Type 0} (tell : C → Conn) (capacity name locality : �
     → Working tell capacity name locality 0 w lists lists words words faults faults 0 0
 working_start tell capacity name locality w lists words faults none = record {
   visits = [];
-  passes = passes_none lists;
+  through = through_none lists;
   number = refl;
   faultless = tt;
   served = tt;
@@ -327,8 +328,8 @@ module _ {C : Type 0} (tell : C → Conn) (capacity name locality connections : 
       ap (λ (H : List Entry). entries_of_connection H (own_name w') d) o.made
       ∙ (filter-append P (history_of w.made) (entries_on w' connections)
       ∙ (ap (λ (es : List Entry). entries_of_connection (history_of w.made) (own_name w') d ++ es)
-          (none_found (own_name w') d (entries_on w' connections)
-              (all_weaker (IsOn name connections) (λ (e : Entry). e.connection ≢ d) (entries_on w' connections) (λ e on same. differs (sym same ∙ on.1)) on_this))
+      (none_found (own_name w') d (entries_on w' connections)
+      (all_weaker (IsOn name connections) (λ (e : Entry). e.connection ≢ d) (entries_on w' connections) (λ e on same. differs (sym same ∙ on.1)) on_this))
       ∙ (append-nil (entries_of_connection (history_of w.made) (own_name w') d)
       ∙ ap (λ (m : ℕ). entries_of_connection (history_of w.made) m d) (n.new ∙ sym n.old))))
 
@@ -339,9 +340,9 @@ module _ {C : Type 0} (tell : C → Conn) (capacity name locality connections : 
   only_more =
       subst (λ (H : List Entry). AllByRecursion (IsFrom name locality (connections + 1)) H) (sym o.made)
       (all_both (IsFrom name locality (connections + 1)) (history_of w.made) (entries_on w' connections)
-          (all_weaker (IsFrom name locality connections) (IsFrom name locality (connections + 1)) (history_of w.made)
-              (λ e i. let b = i.connection_below in record { caller_is = i.caller_is; locality_is = i.locality_is; connection_below = omega arith }) k.only)
-          (from_both name locality connections (entries_on w' connections) on_this (at_locality locality 0 (entries_on w' connections) o.served.payloads o.served.answered)))
+      (all_weaker (IsFrom name locality connections) (IsFrom name locality (connections + 1)) (history_of w.made)
+      (λ e i. let b = i.connection_below in record { caller_is = i.caller_is; locality_is = i.locality_is; connection_below = omega arith }) k.only)
+      (from_both name locality connections (entries_on w' connections) on_this (at_locality locality 0 (entries_on w' connections) o.served.payloads o.served.answered)))
 
   none_later : (d : ℕ) → connections < d → made_on w' d ≡ []
   none_later d lt =
@@ -364,7 +365,7 @@ module _ {C : Type 0} (tell : C → Conn) (capacity name locality connections : 
       let cut_before = k.cut_are in
       record {
         visits = k.visits ++ v ∷ [];
-        passes = passes_told k.visits v old now mid next k.passes out back;
+        through = through_told k.visits v old now mid next k.through out back;
         number = omega (arith, length-append k.visits (v ∷ []));
         faultless = all_more (IsFaultless tell) k.visits v k.faultless o.fresh;
         served =
@@ -376,7 +377,7 @@ module _ {C : Type 0} (tell : C → Conn) (capacity name locality connections : 
         drawn =
             subst (λ (many : ℕ). Draws (history_of w'.made) many words then) (sym (ended_more is_told_full k.visits v))
             (subst (λ (H : List Entry). Draws H (ended is_told_full k.visits + words_more v.ending) words then) (sym o.made)
-                (draws_more (history_of w.made) (entries_on w' connections) (ended is_told_full k.visits) (words_more v.ending) words left then k.drawn o.drawn (λ some. o.quiet (k.told some))));
+            (draws_more (history_of w.made) (entries_on w' connections) (ended is_told_full k.visits) (words_more v.ending) words left then k.drawn o.drawn (λ some. o.quiet (k.told some))));
         rose =
             subst (λ (many : ℕ). RoseBy many before faults') (sym (ended_more is_entropy_fault k.visits v))
             (rose_more v.ending (ended is_entropy_fault k.visits) before faults faults' k.rose o.cause);
@@ -386,12 +387,13 @@ module _ {C : Type 0} (tell : C → Conn) (capacity name locality connections : 
       }
 
 -- the same, of what the pass has seen
-pub working_done : {C : Type 0} (tell : C → Conn) (capacity name locality connections : ℕ) (w : Seat) (old now : Option (Lists C)) (words left : Option (List (List ℕ))) (before faults fulls cuts : ℕ)
-    → Sound IsLegalFor w → 0 < times (own_name w) w.names → Working tell capacity name locality connections w old now words left before faults fulls cuts
-    → ServesDoor tell capacity locality connections w old now words left before faults fulls cuts
-working_done tell capacity name locality connections w old now words left before faults fulls cuts sound own k = record {
+pub working_done : {C : Type 0} (tell : C → Conn) (capacity name locality : ℕ) (tally : Tally) (w : Seat) (old now : Option (Lists C)) (drawn_from drawn_to : Random)
+    → Sound IsLegalFor w → 0 < times (own_name w) w.names
+    → Working tell capacity name locality tally.connections w old now drawn_from.words drawn_to.words drawn_from.faults drawn_to.faults tally.full tally.cut
+    → ServesDoor tell capacity locality tally w old now drawn_from drawn_to
+working_done tell capacity name locality tally w old now drawn_from drawn_to sound own k = record {
   visits = k.visits;
-  passes = k.passes;
+  through = k.through;
   number = k.number;
   faultless = k.faultless;
   served = served_as tell capacity locality 0 (made_on w) (entries_on w) k.visits (λ d lt. seen_is_made w d sound own) k.served;

@@ -1,6 +1,7 @@
 pub mod Conn
 pub mod Drawn
 pub mod Endings
+pub mod Observed
 pub mod Passes
 pub mod Served
 pub mod Steps

@@ -2,13 +2,13 @@
 use Rattle.std.specs.Prelude.{ℕ, ◌+◌, ◌-◌, ◌^◌, ◌<◌, ◌≤◌, ◌≡◌, ◌≢◌, min, Bool, true, List, [], ◌∷◌, ◌++◌, length, map, count_by, Option, None}
 use Rattle.std.specs.List.{AllByRecursion}
 use Rattle.dpe_io.specs.Told.{IfTold, Lists}
-use Rattle.dpe_desk.specs.Passes.{own_name}
 use Rattle.dpe_model.specs.History.{Entry}
 use Rattle.dpe_serve.specs.Conn.{Conn}
-use Rattle.dpe_serve.specs.Drawn.{Draws}
+use Rattle.dpe_serve.specs.Drawn.{Random, Draws}
 use Rattle.dpe_serve.specs.Endings.{Ending, is_told_full, is_full, is_cut, is_entropy_fault}
 use Rattle.dpe_serve.specs.Passes.{Seat, history_of, entries_on}
 use Rattle.dpe_serve.specs.Served.{Served}
+use Rattle.dpe_serve.specs.declared.worker.Tally.{Tally}
 
 -- A connection's visit: as the door gave it out and as it was handed back, and how it ended.
 pub record Visit (C : Type 0) : Type 0 where
@@ -29,8 +29,8 @@ pub record RoseBy (many before now : ℕ) : Type 0 where
 
 module _ {C : Type 0} where
   -- the door gave out these of its waiting connections, in order, and got them back
-  abbrev pub Passes : List (Visit C) → Lists C → Lists C → Type 0
-  Passes visits old new =
+  abbrev pub GoThrough : List (Visit C) → Lists C → Lists C → Type 0
+  GoThrough visits old new =
       (old.waiting ≡ map (λ v. v.before) visits ++ new.waiting) × (new.ended ≡ old.ended ++ map (λ v. v.after) visits)
 
   -- a connection had no fault when it was given out
@@ -56,15 +56,15 @@ module _ {C : Type 0} where
   ended test visits = count_by (λ v. test v.ending) visits
 
   -- A door's connections were served by a pass, from its first call on, and the random bytes of their entries drawn.
-  pub record ServesDoor (tell : C → Conn) (capacity locality connections : ℕ) (w : Seat) (old new : Option (Lists C)) (words left : Option (List (List ℕ))) (before now full cut : ℕ) : Type 0 where
+  pub record ServesDoor (tell : C → Conn) (capacity locality : ℕ) (tally : Tally) (w : Seat) (old new : Option (Lists C)) (drawn_from drawn_to : Random) : Type 0 where
     pub visits : List (Visit C)
-    pub passes : IfTold (Passes visits) old new
-    pub number : length visits ≡ connections
+    pub through : IfTold (GoThrough visits) old new
+    pub number : length visits ≡ tally.connections
     pub faultless : AllByRecursion (IsFaultless tell) visits
     pub served : AllServed tell capacity locality (entries_on w) 0 visits
     pub quiet : QuietOnceFull (entries_on w) 0 visits
     pub told : 0 < ended is_told_full visits → w.full ≢ None
-    pub drawn : Draws (history_of w.made) (ended is_told_full visits) words left
-    pub rose : RoseBy (ended is_entropy_fault visits) before now
-    pub full_are : full ≡ ended is_full visits
-    pub cut_are : cut ≡ ended is_cut visits
+    pub drawn : Draws (history_of w.made) (ended is_told_full visits) drawn_from.words drawn_to.words
+    pub rose : RoseBy (ended is_entropy_fault visits) drawn_from.faults drawn_to.faults
+    pub full_are : tally.full ≡ ended is_full visits
+    pub cut_are : tally.cut ≡ ended is_cut visits

@@ -96,9 +96,9 @@ fn send<C: Duplex>(conn: &mut C, payload: &[u8]) -> Result<(), Failed>
     requires { length payload.now ≤ 4096 }
     ensures { MatchResult result
         (λ _. Sends (told_by C.Source.left C.Sink.bytes C.Source.faults C.Sink.faults conn.old)
-            (told_by C.Source.left C.Sink.bytes C.Source.faults C.Sink.faults conn.new) (frame payload.now))
+        (told_by C.Source.left C.Sink.bytes C.Source.faults C.Sink.faults conn.new) (frame payload.now))
         (λ _. SendsFront (told_by C.Source.left C.Sink.bytes C.Source.faults C.Sink.faults conn.old)
-            (told_by C.Source.left C.Sink.bytes C.Source.faults C.Sink.faults conn.new) (frame payload.now)) }
+        (told_by C.Source.left C.Sink.bytes C.Source.faults C.Sink.faults conn.new) (frame payload.now)) }
 {
     match write_frame(conn, payload) {
         Ok(()) => Ok(()),
@@ -183,7 +183,13 @@ fn serve_commands<R: Wait, C: Duplex, E: Entropy>(
             Ok(len) => len,
             Err(end) => return end,
         };
-        let call = Call::new(connection, index, locality, &random, &buffers.payload[..len]);
+        let call = Call::new(
+            connection,
+            index,
+            locality,
+            &random,
+            &buffers.payload[..len],
+        );
         match answer(rt, desk, pass, &call, conn, buffers) {
             None => index += 1,
             Some(end) => return end,

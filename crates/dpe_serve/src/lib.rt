@@ -3,9 +3,13 @@
 #![tactic(auto)]
 
 mod connection;
+mod law;
 mod room;
+#[cfg(test)]
+mod tests;
 mod worker;
 
 pub use connection::{End, serve_connection};
+pub use law::{closed_where_nothing_failed, one_ending};
 pub use room::Room;
 pub use worker::{Tally, Worker, serve_worker};

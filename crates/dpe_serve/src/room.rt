@@ -16,7 +16,8 @@ pub struct Room {
 }
 
 impl Room {
-    /// Takes the buffers, about 8 kB: all the memory that serving ever uses. It may answer want of memory.
+    /// Takes the buffers, about 8 kB: all the memory that serving ever uses. It may answer want of memory; no clause: what
+    /// lies in the buffers is never told.
     pub fn make(alloc: Global) -> Result<Room, AllocError> {
         let buffers = Box::new(
             alloc,

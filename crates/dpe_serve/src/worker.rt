@@ -8,6 +8,7 @@ ghost use Rattle.dpe_desk.specs.Passes.{Belongs, Grows, own_name};
 ghost use Rattle.dpe_desk.specs.Views.{Sound};
 ghost use Rattle.dpe_journal.specs.Shared.{IsLegalFor};
 ghost use Rattle.dpe_serve.specs.Conn.{told_by};
+ghost use Rattle.dpe_serve.specs.Drawn.{random_by};
 ghost use Rattle.dpe_serve.specs.Endings.{ending_of, is_full, is_cut};
 ghost use Rattle.dpe_serve.specs.Passes.{history_of};
 ghost use Rattle.dpe_serve.specs.Workers.{IsFrom, ServesDoor};
@@ -95,12 +96,12 @@ fn serve_door<R: Wait, D: Door, E: Entropy>(
     ensures made { AllByRecursion (IsFrom (own_name pass.new.view) locality result.connections) (history_of pass.new.view.made) }
     ensures served { ServesDoor
         (told_by D.Conn.Source.left D.Conn.Sink.bytes D.Conn.Source.faults D.Conn.Sink.faults)
-        desk.now.terms.capacity locality result.connections pass.new.view (D.lists door.old) (D.lists door.new)
-        (E.words entropy.old) (E.words entropy.new) (E.faults entropy.old) (E.faults entropy.new) result.full result.cut }
+        desk.now.terms.capacity locality result pass.new.view (D.lists door.old) (D.lists door.new)
+        (random_by E.words E.faults entropy.old) (random_by E.words E.faults entropy.new) }
     ensures at_most { result.connections ≤ each }
     ensures all { result.connections < each → IsTrue result.door_failed ⊎ NoneWaits (D.lists door.new) }
-    ensures failed { OnTrue result.door_failed (Rose (D.faults door.old) (D.faults door.new)) }
-    ensures open { OnFalse result.door_failed (D.faults door.new ≡ D.faults door.old) }
+    ensures door_failed { OnTrue result.door_failed (Rose (D.faults door.old) (D.faults door.new)) }
+    ensures door_kept { OnFalse result.door_failed (D.faults door.new ≡ D.faults door.old) }
     ensures out { D.out door.new ≡ D.out door.old }
 {
     let _name = pass.name();
@@ -188,18 +189,16 @@ pub fn serve_worker<R: Wait, D: Door, E: Entropy>(
         (history_of worker.new.pass.view.made) }
     ensures served { ServesDoor
         (told_by D.Conn.Source.left D.Conn.Sink.bytes D.Conn.Source.faults D.Conn.Sink.faults)
-        desk.now.terms.capacity worker.old.locality worker.new.tally.connections worker.new.pass.view
+        desk.now.terms.capacity worker.old.locality worker.new.tally worker.new.pass.view
         (D.lists worker.old.door) (D.lists worker.new.door)
-        (E.words worker.old.entropy) (E.words worker.new.entropy)
-        (E.faults worker.old.entropy) (E.faults worker.new.entropy)
-        worker.new.tally.full worker.new.tally.cut }
+        (random_by E.words E.faults worker.old.entropy) (random_by E.words E.faults worker.new.entropy) }
 
     // It serves as many as it may, unless none waits or the door failed.
     ensures at_most { worker.new.tally.connections ≤ worker.old.each }
     ensures all { worker.new.tally.connections < worker.old.each →
         IsTrue worker.new.tally.door_failed ⊎ NoneWaits (D.lists worker.new.door) }
-    ensures failed { OnTrue worker.new.tally.door_failed (Rose (D.faults worker.old.door) (D.faults worker.new.door)) }
-    ensures open { OnFalse worker.new.tally.door_failed (D.faults worker.new.door ≡ D.faults worker.old.door) }
+    ensures door_failed { OnTrue worker.new.tally.door_failed (Rose (D.faults worker.old.door) (D.faults worker.new.door)) }
+    ensures door_kept { OnFalse worker.new.tally.door_failed (D.faults worker.new.door ≡ D.faults worker.old.door) }
     ensures out { D.out worker.new.door ≡ D.out worker.old.door }
 {
     let Worker {
