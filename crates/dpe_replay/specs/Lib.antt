@@ -1,0 +1,13 @@
+pub mod Audit
+pub mod Finding
+pub mod Front
+pub mod Judging
+pub mod Listing
+pub mod Mode
+pub mod Printed
+pub mod Replay
+pub mod Shelves
+pub mod Taking
+pub mod Tasks
+pub mod Verdicts
+pub mod Words

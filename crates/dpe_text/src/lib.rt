@@ -1,0 +1,12 @@
+//! Text for people: numbers read, and lines put together in a fixed room and written to a sink.
+#![tactic(auto)]
+
+mod number;
+#[cfg(test)]
+mod tests;
+mod text;
+mod writing;
+
+pub use number::parse_number;
+pub use text::{MAX_TEXT, Text};
+pub use writing::print;
