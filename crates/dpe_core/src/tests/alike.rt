@@ -1,7 +1,7 @@
 ghost use Rattle.std.specs.Prelude.{◌≤◌, ◌<◌};
 
-use crate::tests::{Both, handle, layer};
-use dpe_messages::{Asked, Command, Config, Reply, Seal, Sign, Unseal, read_reply};
+use crate::tests::{Both, LAST_SERIAL, handle, layer};
+use dpe_messages::{Asked, Command, Config, Reply, Seal, Sign, Unseal, read_reply, reply_code};
 use std::alloc::{AllocError, Global};
 use std::test::Fail;
 
@@ -22,18 +22,55 @@ impl Numbers {
     }
 }
 
-// A context that lives, or a handle that may name none; and where it is asked for.
-fn pick(both: &Both, numbers: &mut Numbers) -> ([u8; 16], u8)
-    ensures { result.1 ≤ 7 }
+// What a command is asked of: a context that lives, or a handle that may name none.
+#[derive(Clone, Copy)]
+struct Picked {
+    handle: [u8; 16],
+    locality: u8,
+    is_root: bool,
+}
+
+fn pick(both: &Both, numbers: &mut Numbers) -> Picked
+    ensures { result.locality ≤ 7 }
 {
     let live = both.core.live();
-    if live == 0 || numbers.below(10) == 0 {
-        let unknown = handle(numbers.below(64));
-        return (unknown, numbers.below(8) as u8);
+    if live == 0 || numbers.below(16) == 0 {
+        let handle = handle(numbers.below(64));
+        return Picked {
+            handle,
+            locality: numbers.below(8) as u8,
+            is_root: false,
+        };
     }
     let row = both.core.row(numbers.below(u64::from(live)) as u32);
+    let locality = if numbers.below(16) == 0 {
+        numbers.below(8) as u8
+    } else {
+        row.locality % 8
+    };
     let handle = row.handle;
-    (handle, row.locality % 8)
+    Picked {
+        handle,
+        locality,
+        is_root: row.depth == 0,
+    }
+}
+
+// What is asked for. The root is neither destroyed nor retired, so that the tree grows on.
+fn choose(picked: &Picked, numbers: &mut Numbers) -> Chosen {
+    let kind = numbers.below(16);
+    let is_destroy = kind == 3 || kind == 4;
+    let handle = picked.handle;
+    Chosen {
+        kind: if picked.is_root && is_destroy {
+            2
+        } else {
+            kind
+        },
+        handle,
+        retain: picked.is_root || numbers.below(4) != 0,
+        byte: numbers.below(256) as u8,
+    }
 }
 
 // How a command is made.
@@ -58,7 +95,7 @@ fn derive(
     let config = Config::Descriptor(&descriptor);
     let may_derive = chosen.byte > 9;
     let mut derive = layer(&chosen.handle, &code, config, chosen.retain, may_derive);
-    derive.mode = chosen.byte % 4;
+    derive.mode = 1 + chosen.byte / 240;
     derive.locality = Some(chosen.byte % 8);
     both.command(alloc, locality, &Command::Derive(derive))
 }
@@ -132,7 +169,7 @@ fn destroy(
 {
     let destroy = Command::Destroy {
         handle: &chosen.handle,
-        recursive: chosen.retain,
+        recursive: chosen.retain && chosen.byte < 64,
     };
     both.command(alloc, locality, &destroy)
 }
@@ -150,10 +187,10 @@ fn reply_to(
         0 => both.command(alloc, locality, &Command::GetProfile),
         1 => both.command(alloc, locality, &Command::Initialize),
         2 => both.command(alloc, locality, &Command::Rotate(&chosen.handle)),
-        3 => destroy(alloc, both, locality, chosen),
-        4 | 5 => sign(alloc, both, locality, chosen),
+        3 | 4 => destroy(alloc, both, locality, chosen),
+        5 => sign(alloc, both, locality, chosen),
         6 | 7 => seal(alloc, both, locality, chosen),
-        8 | 9 => unseal(alloc, both, locality, chosen, sealed),
+        8..=10 => unseal(alloc, both, locality, chosen, sealed),
         _ => derive(alloc, both, locality, chosen),
     }
 }
@@ -166,37 +203,43 @@ fn box_in(alloc: Global, reply: &[u8]) -> Result<Option<Vec<u8>>, AllocError> {
     }
 }
 
-// Whether both answer some command alike. The last box that was sealed is the one that is opened.
-fn are_alike(
+// The code with which both answer some command, or none where they don't answer it alike. The last box that was sealed is the
+// one that is opened.
+fn common_code(
     alloc: Global,
     both: &mut Both,
     numbers: &mut Numbers,
     sealed: &mut Vec<u8>,
-) -> Result<bool, AllocError> {
-    let (handle, locality) = pick(both, numbers);
-    let chosen = Chosen {
-        kind: numbers.below(16),
-        handle,
-        retain: numbers.below(3) != 0,
-        byte: numbers.below(256) as u8,
-    };
+) -> Result<Option<u64>, AllocError> {
+    let picked = pick(both, numbers);
+    let chosen = choose(&picked, numbers);
     both.random = numbers.below(256) as u8;
-    let reply = reply_to(alloc, both, locality, &chosen, sealed)?;
+    let reply = reply_to(alloc, both, picked.locality, &chosen, sealed)?;
     if let Some(found) = box_in(alloc, &reply)? {
         *sealed = found;
     }
-    Ok(!reply.is_empty())
+    Ok(reply_code(&reply))
 }
 
 #[test]
 fn both_answer_thousands_of_commands_alike(rt: HostRuntime) -> Result<(), Fail> {
     let mut numbers = Numbers(1);
-    for first in 0..8 {
+    let mut accepted = 0u32;
+    // the last two histories spend all serials
+    let last = LAST_SERIAL - 120;
+    for first in [1, 1, 1, 1, 1, 1, last, last] {
         let mut both = Both::start(rt.alloc(), first)?;
+        let _root = both.command(rt.alloc(), 0, &Command::Initialize)?;
         let mut sealed = Vec::new(rt.alloc());
         for _ in 0..250 {
-            assert!(rt; are_alike(rt.alloc(), &mut both, &mut numbers, &mut sealed)?);
+            let code = common_code(rt.alloc(), &mut both, &mut numbers, &mut sealed)?;
+            assert!(rt; code.is_some());
+            if code == Some(0) {
+                accepted = accepted.wrapping_add(1);
+            }
         }
     }
+    // most of them do something
+    assert!(rt; accepted > 1000);
     Ok(())
 }

@@ -207,7 +207,7 @@ static PAYLOADS: [(&str, u8, Ask, &str); 9] = [
     ("no byte", 0, Ask::Payload(b""), "8200438202a0"),
 ];
 
-static LAST_SERIALS: [(&str, u8, Ask, &str); 4] = [
+static LAST_SERIALS: [(&str, u8, Ask, &str); 7] = [
     (
         "a root",
         0,
@@ -231,6 +231,24 @@ static LAST_SERIALS: [(&str, u8, Ask, &str); 4] = [
         0,
         Ask::Rotate(LAST_SERIAL - 1),
         "820044821819a0",
+    ),
+    (
+        "another locality comes before the serials",
+        4,
+        Ask::Rotate(LAST_SERIAL - 1),
+        "8200438212a0",
+    ),
+    (
+        "the locked seed comes before the serials",
+        0,
+        Ask::Initialize,
+        "8200438205a0",
+    ),
+    (
+        "the root's locality comes before the locked seed",
+        1,
+        Ask::Initialize,
+        "82004482181ba0",
     ),
 ];
 
@@ -266,10 +284,39 @@ fn derived(alloc: Global, retain: bool, count: u64) -> Result<Both, AllocError>
     Ok(both)
 }
 
-static DEEPEST: [(&str, u8, Ask, &str); 1] = [("no deeper", 0, Ask::InPlace(17), "8200438214a0")];
+static DEEPEST: [(&str, u8, Ask, &str); 2] = [
+    ("no deeper", 0, Ask::InPlace(17), "8200438214a0"),
+    (
+        "another locality comes before the depth",
+        3,
+        Ask::InPlace(17),
+        "8200438212a0",
+    ),
+];
 
-static FULL: [(&str, u8, Ask, &str); 2] = [
+static DEEPEST_LAST: [(&str, u8, Ask, &str); 2] = [
+    (
+        "the deepest, which may not derive",
+        0,
+        Ask::Last(16),
+        "8200558200a1015000000000000000110000000000000000",
+    ),
+    (
+        "that it may not derive comes before the depth",
+        0,
+        Ask::InPlace(17),
+        "8200438213a0",
+    ),
+];
+
+static FULL: [(&str, u8, Ask, &str); 3] = [
     ("no context more", 0, Ask::Beside(511), "8200438215a0"),
+    (
+        "another locality comes before the full table",
+        7,
+        Ask::Beside(511),
+        "8200438212a0",
+    ),
     (
         "one in the place of another",
         0,
@@ -278,16 +325,33 @@ static FULL: [(&str, u8, Ask, &str); 2] = [
     ),
 ];
 
+static FULL_AND_DEEPEST: [(&str, u8, Ask, &str); 1] = [(
+    "the depth comes before the full table",
+    0,
+    Ask::Beside(527),
+    "8200438214a0",
+)];
+
 #[test]
 fn limits_are_kept(rt: HostRuntime) -> Result<(), Fail> {
     // sixteen derivations in a row
     let mut both = derived(rt.alloc(), false, 16)?;
     assert_eq!(rt; first_wrong(rt.alloc(), &mut both, &DEEPEST)?, None);
     assert_eq!(rt; both.folds.folds(), 16);
+    let mut both = derived(rt.alloc(), false, 15)?;
+    assert_eq!(rt; first_wrong(rt.alloc(), &mut both, &DEEPEST_LAST)?, None);
     // 255 beside the root
     let mut both = derived(rt.alloc(), true, 255)?;
     assert_eq!(rt; first_wrong(rt.alloc(), &mut both, &FULL)?, None);
     assert_eq!(rt; both.core.live(), 256);
     assert_eq!(rt; both.folds.folds(), 256);
+    // and fifteen more in a row
+    for context in 512..527 {
+        let _reply = reply_to(rt.alloc(), &mut both, 0, Ask::InPlace(context))?;
+    }
+    assert_eq!(rt;
+        first_wrong(rt.alloc(), &mut both, &FULL_AND_DEEPEST)?,
+        None
+    );
     Ok(())
 }
