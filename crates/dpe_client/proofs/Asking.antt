@@ -1,13 +1,12 @@
 -- One line: its command sent, what came back, and what was printed.
-use Rattle.std.proofs.Common.{◌≡◌, ℕ, List, [], ◌++◌, append-nil, Option, ◌⊎◌, inl, inr, refl, sym, subst, Result, Ok, Err}
+use Rattle.std.proofs.Common.{◌≡◌, ℕ, ◌≤◌, List, [], length, append-nil, Option, refl, sym, subst, Result, Ok, Err}
 use Rattle.std.specs.Prelude.{IfErr}
 use Rattle.std.specs.Io.KnownBytes.{Consumes, Appends}
 use Rattle.dpe_link.specs.Frames.{frame}
-use Rattle.dpe_link.specs.Reading.{IsNoFrame}
 use Rattle.dpe_client.specs.Acts.{Act}
 use Rattle.dpe_client.specs.Script.{Line}
-use Rattle.dpe_client.specs.Meaning.{Values, answer_payload, sent_payload, said_of}
-use Rattle.dpe_client.specs.Run.{Told, AppendsFront, SameCounts, Concludes, NotConcluded, NotExchanged, HasNoFrame, Exchanges, Fails, CausedBy, OutputCause, IsNoReply, refused}
+use Rattle.dpe_client.specs.Meaning.{Values, sent_payload}
+use Rattle.dpe_client.specs.Run.{Told, AppendsFront, SameCounts, Concludes, NotConcluded, NotExchanged, HasNoFrame, Exchanges, Fails, CausedBy, OutputCause, refused}
 use Rattle.dpe_client.specs.declared.run.Cause.{Cause}
 use Rattle.dpe_client.specs.declared.run.Cause.TheVariants.{Link, Reply, Output}
 
@@ -22,14 +21,14 @@ exchanged line payload told P before now old new x0 x1 is given taken c = record
   printed = c.printed;
 }
 
-pub unconcluded : (cause : Cause) (line : Line) (payload told : List ℕ) (before now : Values) (old new : Told) (x0 x1 : Option (List ℕ)) → told ≡ sent_payload before line.act
+pub unconcluded : (cause : Cause) (line : Line) (payload told : List ℕ) (before now : Values) (old new : Told) (x0 x1 : Option (List ℕ)) → length payload ≤ 4096 → told ≡ sent_payload before line.act
     → Appends old.bytes new.bytes (frame told) → Consumes old.left new.left (frame payload) → NotConcluded cause line payload before now x0 x1 → Fails cause line before now old new x0 x1
-unconcluded Link line payload told before now old new x0 x1 is given taken c = absurd c
-unconcluded Reply line payload told before now old new x0 x1 is given taken c = (
-  (subst (λ (p : List ℕ). Appends old.bytes new.bytes (frame p)) is given, (frame payload, refused payload refl c.0, taken)),
+unconcluded Link line payload told before now old new x0 x1 few is given taken c = absurd c
+unconcluded Reply line payload told before now old new x0 x1 few is given taken c = (
+  (subst (λ (p : List ℕ). Appends old.bytes new.bytes (frame p)) is given, (frame payload, refused payload few refl c.0, taken)),
   c.1,
 )
-unconcluded Output line payload told before now old new x0 x1 is given taken c = exchanged line payload told AppendsFront before now old new x0 x1 is given taken c
+unconcluded Output line payload told before now old new x0 x1 few is given taken c = exchanged line payload told AppendsFront before now old new x0 x1 is given taken c
 
 pub unexchanged : (cause : Cause) (line : Line) (told : List ℕ) (before : Values) (old new : Told) (x : Option (List ℕ)) → told ≡ sent_payload before line.act
     → NotExchanged line.act told cause old new → Fails cause line before before old new x x
@@ -65,8 +64,8 @@ pub unreceived_all : {T : Type 0} (r : Result T Cause) (payload : List ℕ) (old
 unreceived_all (Ok x) payload old mid new given left bytes f = tt
 unreceived_all (Err cause) payload old mid new given left bytes f = λ act. unreceived cause act payload old mid new given left bytes (f act)
 
-pub unconcluded_all : {T : Type 0} (r : Result T Cause) (line : Line) (payload told : List ℕ) (before now : Values) (old new : Told) (x0 x1 : Option (List ℕ)) → told ≡ sent_payload before line.act
+pub unconcluded_all : {T : Type 0} (r : Result T Cause) (line : Line) (payload told : List ℕ) (before now : Values) (old new : Told) (x0 x1 : Option (List ℕ)) → length payload ≤ 4096 → told ≡ sent_payload before line.act
     → Appends old.bytes new.bytes (frame told) → Consumes old.left new.left (frame payload) → IfErr r (λ cause. NotConcluded cause line payload before now x0 x1)
     → IfErr r (λ cause. Fails cause line before now old new x0 x1)
-unconcluded_all (Ok x) line payload told before now old new x0 x1 is given taken f = tt
-unconcluded_all (Err cause) line payload told before now old new x0 x1 is given taken f = unconcluded cause line payload told before now old new x0 x1 is given taken f
+unconcluded_all (Ok x) line payload told before now old new x0 x1 few is given taken f = tt
+unconcluded_all (Err cause) line payload told before now old new x0 x1 few is given taken f = unconcluded cause line payload told before now old new x0 x1 few is given taken f

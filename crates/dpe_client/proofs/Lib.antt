@@ -11,3 +11,9 @@ pub mod Running
 pub mod Taking
 pub mod Asking
 pub mod Shown
+pub mod Lines
+pub mod Opening
+pub mod Visiting
+pub mod Completing
+pub mod Wording
+pub mod Statuses

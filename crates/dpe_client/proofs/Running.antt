@@ -1,5 +1,5 @@
 -- What the loop over the lines keeps, and how it ends.
-use Rattle.std.proofs.Common.{◌≡◌, ◌≢◌, ℕ, suc, ◌+◌, ◌<◌, ◌≤◌, Bool, true, false, List, [], ◌∷◌, ◌++◌, length, drop, get_or, Option, Some, None, ◌⊎◌, inl, inr, refl, sym, ap, subst, ◌∙◌, append_assoc, append-nil, arith}
+use Rattle.std.proofs.Common.{◌≡◌, ℕ, suc, ◌+◌, ◌<◌, Bool, true, false, List, [], ◌∷◌, ◌++◌, length, drop, get_or, Option, Some, inl, inr, refl, sym, ap, subst, ◌∙◌, append_assoc, append-nil, arith}
 use native.Mathlib.Decide.{ℕ_discrete}
 use Rattle.std.proofs.lemmas.List.{get_or_default}
 use Rattle.std.specs.Prelude.{◌==◌, if◌then◌else◌, filter, flat_map}
@@ -141,7 +141,7 @@ frames_one k p e = ap (λ (b : Bool). flat_map (λ (q : Posted). frame q.payload
 frames_none : (k : ℕ) (p : Posted) → (p.link ≡ k → ⊥) → frames_on k (p ∷ []) ≡ []
 frames_none k p e = ap (λ (b : Bool). flat_map (λ (q : Posted). frame q.payload) (if b then p ∷ [] else [])) (apart_test p.link k e)
 
-got_own : (line : Line) (answer : Answer) (k : ℕ) → line.link ≡ k → got_one line answer k ≡ frame (answer_payload answer)
+pub got_own : (line : Line) (answer : Answer) (k : ℕ) → line.link ≡ k → got_one line answer k ≡ frame (answer_payload answer)
 got_own line answer k e = ap (λ (b : Bool). if b then frame (answer_payload answer) else []) (equal_test line.link k e)
 
 got_other : (line : Line) (answer : Answer) (k : ℕ) → (line.link ≡ k → ⊥) → got_one line answer k ≡ []
@@ -248,7 +248,7 @@ module _ (xs : List Done) (line : Line) (k : ℕ) (o m n : Told) (passed : Passe
     refused_other : (line.link ≡ k → ⊥) → IsRefused line all (answers_in xs) k o m
     refused_other e = (
       subst (λ (t : List ℕ). Appends o.bytes m.bytes t) (sym (sent_other e)) passed.0,
-      ([], inl refl, got_nothing),
+      ([], inl (e, refl), got_nothing),
     )
 
 -- what passed so far is a front of what is sent, whatever follows
@@ -368,8 +368,8 @@ module _ {L : Type 0} (told : L → Told) (lines rest : List Line) (line : Line)
         printed = said_so_far same;
       })
 
-  pub running_refused : IsUnanswered line.act values was is_now → x2 ≡ x1 → StopsAtReply told lines old new x0 x2 line.number
-  running_refused (given, read) same =
+  pub running_refused : length now ≡ length old → IsUnanswered line.act values was is_now → x2 ≡ x1 → StopsAtReply told lines old new x0 x2 line.number
+  running_refused whole (given, read) same =
       subst (λ (ls : List Line). StopsAtReply told ls old new x0 x2 line.number) (sym r.split)
       (record {
         answers = answers_in r.done;
@@ -377,6 +377,7 @@ module _ {L : Type 0} (told : L → Told) (lines rest : List Line) (line : Line)
         each = answers_split r.done (line ∷ rest) r.each;
         next = next_split r.done line rest;
         is = refl;
+        within = omega arith;
         links =
             each_other (IsRefused line (lines_in r.done ++ (line ∷ rest)) (answers_in r.done))
             (λ o p. refused_own r.done line line.link o was is_now p rest refl (subst (λ (v : Values). Appends was.bytes is_now.bytes (frame (sent_payload v line.act))) r.values_are given) read)
@@ -408,13 +409,13 @@ module _ {L : Type 0} (told : L → Told) (lines rest : List Line) (line : Line)
   pub next_running : ((d : L) → Exchanges line Appends values next (told (get_or now line.link d)) (told (get_or new line.link d)) x1 x2) → IsRunning told lines rest old new x0 x2 next
   next_running f = let d = some_of now line.link within in running_on told lines rest line old now new x0 x1 x2 values next r d within size others (f d)
 
-  pub running_stops : (cause : Cause) → ((d : L) → Fails cause line values next (told (get_or now line.link d)) (told (get_or new line.link d)) x1 x2)
+  pub running_stops : length now ≡ length old → (cause : Cause) → ((d : L) → Fails cause line values next (told (get_or now line.link d)) (told (get_or new line.link d)) x1 x2)
       → Stops told lines old new x0 x2 cause line.number
-  running_stops Link f =
+  running_stops whole Link f =
       let d = some_of now line.link within in running_cut_off told lines rest line old now new x0 x1 x2 values next r d within size others (f d).0 (f d).1
-  running_stops Reply f =
-      let d = some_of now line.link within in running_refused told lines rest line old now new x0 x1 x2 values next r d within size others (f d).0 (f d).1
-  running_stops Output f =
+  running_stops whole Reply f =
+      let d = some_of now line.link within in running_refused told lines rest line old now new x0 x1 x2 values next r d within size others whole (f d).0 (f d).1
+  running_stops whole Output f =
       let d = some_of now line.link within in running_output told lines rest line old now new x0 x1 x2 values next r d within size others (f d)
 
 -- ---- counts

@@ -1,9 +1,9 @@
 -- A value that is put at the place of a name.
-use Rattle.std.proofs.Common.{◌≡◌, ℕ, zero, suc, ◌<◌, Bool, true, false, ◌||◌, List, [], ◌∷◌, length, set, Option, Some, None, refl, sym, ap, subst, ◌∙◌, arith}
+use Rattle.std.proofs.Common.{◌≡◌, ℕ, suc, ◌<◌, Bool, true, false, ◌||◌, List, [], ◌∷◌, length, set, Option, Some, None, refl, sym, ap, subst, ◌∙◌, arith}
 use Rattle.std.specs.Option.{option_map, option_and_then, unwrap_or}
 use Rattle.std.specs.Prelude.{slice_get, bytes_eq, if◌then◌else◌}
 use Rattle.std.proofs.lemmas.Slice.Eq.{bytes_eq-Decides}
-use Rattle.dpe_client.specs.Names.{is_among, is_known}
+use Rattle.dpe_client.specs.Names.{is_among}
 use Rattle.dpe_client.specs.Meaning.{taken}
 use Rattle.dpe_client.specs.CodeValues.{place_of, found}
 use Rattle.dpe_client.proofs.Places.{place_hit, place_miss}

@@ -1,5 +1,5 @@
 -- What the names have once a command's reply was taken.
-use Rattle.std.proofs.Common.{◌≡◌, ℕ, List, Option, ◌∙◌, ap}
+use Rattle.std.proofs.Common.{◌≡◌, ℕ, List, Option, ◌∙◌}
 use Rattle.dpe_messages.specs.Replies.{Response}
 use Rattle.dpe_client.specs.Acts.{Act}
 use Rattle.dpe_client.specs.Names.{fresh_of, keep_of, sealed_of}

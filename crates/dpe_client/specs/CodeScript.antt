@@ -3,7 +3,7 @@ use Rattle.std.specs.Prelude.{◌≡◌, ℕ, List, [], ◌∷◌, ◌++◌, map
 use Rattle.dpe_client.specs.Acts.{act_of, IsInRange}
 use Rattle.dpe_client.specs.Grammar.{asking_of}
 use Rattle.dpe_client.specs.Names.{Names, HasNames}
-use Rattle.dpe_client.specs.Script.{Line, Step, skip, ask, stop, step, asked, Script, right, bad_line}
+use Rattle.dpe_client.specs.Script.{Line, Step, skip, ask, stop, step, asked, Script, bad_line}
 use Rattle.dpe_client.specs.CodeNames.{names_of}
 use Rattle.dpe_client.specs.declared.script.Line as code_line
 use Rattle.dpe_client.specs.declared.script.Script as code_script

@@ -10,3 +10,4 @@ pub mod Meaning
 pub mod CodeValues
 pub mod Answered
 pub mod Run
+pub mod Client

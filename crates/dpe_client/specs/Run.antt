@@ -1,7 +1,7 @@
 -- How the lines of a script end, and what passes over each link until then.
-use Rattle.std.specs.Prelude.{◌≡◌, ℕ, ◌<◌, List, [], ◌∷◌, ◌++◌, length, slice_index_or, Option, Some, None, ◌⊎◌, Result, MatchResult}
+use Rattle.std.specs.Prelude.{◌≡◌, ℕ, ◌<◌, ◌≤◌, List, [], ◌∷◌, ◌++◌, length, slice_index_or, Option, Some, None, ◌⊎◌, Result, MatchResult}
 use Rattle.std.specs.Io.KnownBytes.{Consumes, Appends, IsAtEnd}
-use Rattle.dpe_link.specs.Frames.{frame, told_length, IsUnfinished}
+use Rattle.dpe_link.specs.Frames.{frame, told_length}
 use Rattle.dpe_link.specs.Reading.{IsNoFrame}
 use Rattle.dpe_io.specs.Causes.{Rose}
 use Rattle.dpe_client.specs.Acts.{Act}
@@ -9,6 +9,7 @@ use Rattle.dpe_client.specs.Script.{Line}
 use Rattle.dpe_client.specs.Meaning.{Values, Answer, IsAnswerTo, asked_of, answer_payload, sent_payload, said_of, after, sent, got, said}
 use Rattle.dpe_client.specs.Answered.{Answers, IsNoAnswer}
 use Rattle.dpe_client.specs.declared.run.Cause.{Cause}
+use Rattle.dpe_client.specs.declared.run.LineFault.{LineFault}
 use Rattle.dpe_client.specs.declared.run.Cause.TheVariants.{Link, Reply, Output}
 
 -- a front of the text was appended
@@ -37,7 +38,7 @@ LinkFailed old new = Rose old.reads new.reads ⊎ Rose old.writes new.writes
 pub data IsNoReply (act : Act) (left : Option (List ℕ)) (taken : List ℕ) : Type 0 where
   ended : IsNoFrame taken → IsAtEnd left → IsNoReply act left taken
   too_long : length taken ≡ 4 → 4096 < told_length taken → IsNoReply act left taken
-  refused : (payload : List ℕ) → taken ≡ frame payload → IsNoAnswer act payload → IsNoReply act left taken
+  refused : (payload : List ℕ) → length payload ≤ 4096 → taken ≡ frame payload → IsNoAnswer act payload → IsNoReply act left taken
 
 -- ---- one line
 
@@ -141,7 +142,7 @@ IsFront lines answers link old new =
 abbrev pub IsRefused : Line → List Line → List Answer → ℕ → Told → Told → Type 0
 IsRefused line lines answers link old new =
     Appends old.bytes new.bytes (sent lines answers link)
-    × ((taken : List ℕ) × ((taken ≡ []) ⊎ ((line.link ≡ link) × IsNoReply line.act new.left taken)) × Consumes old.left new.left (got lines answers link ++ taken))
+    × ((taken : List ℕ) × (((line.link ≡ link → ⊥) × (taken ≡ [])) ⊎ ((line.link ≡ link) × IsNoReply line.act new.left taken)) × Consumes old.left new.left (got lines answers link ++ taken))
 
 module _ {L : Type 0} (told : L → Told) (lines : List Line) (old new : List L) (out_old out_new : Option (List ℕ)) where
   -- each line was answered, and all was printed
@@ -169,6 +170,7 @@ module _ {L : Type 0} (told : L → Told) (lines : List Line) (old new : List L)
     pub each : AreAnswers lines answers
     pub next : next_line lines answers ≡ Some line
     pub is : line.number ≡ number
+    pub within : line.link < length old
     pub links : EachLink told (IsRefused line lines answers) old new
     pub printed : Appends out_old out_new (said lines answers)
 
@@ -197,3 +199,7 @@ abbrev pub RunCausedBy : {L : Type 0} → (L → Told) → Cause → List L → 
 RunCausedBy told Link old new out_old out_new = SomeLinkFailed told old new × (out_new ≡ out_old)
 RunCausedBy told Reply old new out_old out_new = LinksKept told old new × (out_new ≡ out_old)
 RunCausedBy told Output old new out_old out_new = LinksKept told old new × Rose out_old out_new
+
+abbrev pub HasRunCause : {L T : Type 0} → (L → Told) → Result T LineFault → List L → List L → ℕ → ℕ → Type 0
+HasRunCause told result old new out_old out_new =
+    MatchResult result (λ _. LinksKept told old new × (out_new ≡ out_old)) (λ fault. RunCausedBy told fault.cause old new out_old out_new)

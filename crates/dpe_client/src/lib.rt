@@ -1,10 +1,13 @@
-//! The client of a DICE Protection Environment: reads a boot script, and checks it whole.
+//! The client of a DICE Protection Environment: reads a boot script, checks it whole, and runs it on its links.
 #![tactic(auto)]
 
 mod act;
 mod answer;
+mod client;
 mod command;
+mod end;
 mod grammar;
+mod links;
 mod names;
 mod options;
 mod run;
@@ -17,9 +20,9 @@ mod values;
 
 pub use act::{Act, Config, Derive, Seal, Sign, Unseal};
 pub use answer::take_answer;
+pub use client::client_main;
 pub use command::write_act;
 pub use names::Names;
-pub use run::{Cause, ask_on, print};
 pub use script::{Line, Script, ScriptFault, read_script};
 pub use text::Text;
 pub use value::Value;

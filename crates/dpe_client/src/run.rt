@@ -1,13 +1,14 @@
 //! Sends the commands of a script, and prints what comes back.
-ghost use Rattle.std.specs.Prelude.{◌≡◌, ◌≢◌, ◌+◌, ◌<◌, ◌≤◌, ℕ, length, take, slice_index_or, IfOk, IfErr, OnOk, OnErr, MatchResult};
+ghost use Rattle.std.specs.Prelude.{◌≡◌, ◌≢◌, ◌+◌, ◌<◌, ◌≤◌, ℕ, All, length, take, slice_index_or, IfOk, IfErr, OnOk, OnErr, MatchResult};
 ghost use Rattle.std.specs.Io.KnownBytes.{Appends, Consumes};
 ghost use Rattle.dpe_io.specs.Causes.{HasCause};
 ghost use Rattle.dpe_link.specs.Frames.{frame};
 ghost use Rattle.dpe_client.specs.Acts.{Act};
+ghost use Rattle.dpe_client.specs.Meaning.{no_values};
 ghost use Rattle.dpe_client.specs.CodeNames.{names_of};
-ghost use Rattle.dpe_client.specs.CodeScript.{line_of, IsLineKnown, IsLineInRange};
+ghost use Rattle.dpe_client.specs.CodeScript.{line_of, lines_are, IsLineKnown, IsLineInRange};
 ghost use Rattle.dpe_client.specs.CodeValues.{values_of, IsReady};
-ghost use Rattle.dpe_client.specs.Run.{AppendsFront, told_by, SameCounts, HasNoFrame, NotExchanged, Concludes, NotConcluded, OutputCause, Exchanges, Fails, HasLineCause};
+ghost use Rattle.dpe_client.specs.Run.{AppendsFront, told_by, SameCounts, HasNoFrame, NotExchanged, Concludes, NotConcluded, OutputCause, Exchanges, Fails, HasLineCause, RunsWhole, Stops, HasRunCause};
 
 use crate::answer::take_answer;
 use crate::command::write_act;
@@ -25,6 +26,13 @@ pub enum Cause {
     Reply,
     /// The output failed.
     Output,
+}
+
+/// The line at which a script ended, and why.
+#[derive(Clone, Copy, Debug, PartialEq, Eq)]
+pub struct LineFault {
+    pub line: usize,
+    pub cause: Cause,
 }
 
 /// Writes a whole text.
@@ -155,8 +163,8 @@ fn ask<L: Duplex, O: Sink>(
     }
 }
 
-/// Sends a line's command on its link, waits for the reply, and prints the line of text.
-pub fn ask_on<L: Duplex, O: Sink>(
+// The same on one of the links, that of the line. The others stay as they were.
+fn ask_on<L: Duplex, O: Sink>(
     line: &Line<'_>,
     links: &mut [L],
     values: &mut Values<'_>,
@@ -180,4 +188,37 @@ pub fn ask_on<L: Duplex, O: Sink>(
     ensures names { values.new.names ≡ values.old.names }
 {
     ask(line, &mut links[usize::from(line.link)], values, out)
+}
+
+/// Sends each line's command on its link, and prints what comes back.
+pub fn run<L: Duplex, O: Sink>(
+    lines: &[Line<'_>],
+    links: &mut [L],
+    values: &mut Values<'_>,
+    out: &mut O,
+) -> Result<(), LineFault>
+    requires ready { IsReady values.old }
+    requires known { All (IsLineKnown (names_of values.old.names)) lines.now }
+    requires range { All IsLineInRange lines.now }
+    requires link { All (λ l. l.link < length links.old) lines.now }
+    requires fresh { values_of values.old ≡ no_values }
+    ensures whole { OnOk result (RunsWhole (told_by L.Source.left L.Sink.bytes L.Source.faults L.Sink.faults) (lines_are lines.now)
+        links.old links.new (O.bytes out.old) (O.bytes out.new)) }
+    ensures stops { IfErr result (λ fault. Stops (told_by L.Source.left L.Sink.bytes L.Source.faults L.Sink.faults) (lines_are lines.now)
+        links.old links.new (O.bytes out.old) (O.bytes out.new) fault.cause fault.line) }
+    ensures cause { HasRunCause (told_by L.Source.left L.Sink.bytes L.Source.faults L.Sink.faults)
+        result links.old links.new (O.faults out.old) (O.faults out.new) }
+{
+    for line in lines {
+        match ask_on(line, links, values, out) {
+            Ok(()) => {}
+            Err(cause) => {
+                return Err(LineFault {
+                    line: line.number,
+                    cause,
+                });
+            }
+        }
+    }
+    Ok(())
 }

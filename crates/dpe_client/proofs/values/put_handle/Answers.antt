@@ -1,4 +1,4 @@
-use Rattle.std.proofs.Common.{ℕ, replicate, sym, arith}
+use Rattle.std.proofs.Common.{replicate, sym, arith}
 use Rattle.dpe_client.specs.Values.{texts}
 use Rattle.dpe_client.proofs.Settling.{found_put, among_has_place}
 use Rattle.dpe_client.proofs.values.put_handle.Goals as goal

@@ -1,5 +1,4 @@
 use Rattle.dpe_messages.specs.Replies.{response_of}
-use Rattle.std.specs.Option.{option_map}
 use Rattle.dpe_client.specs.Acts.{act_of}
 use Rattle.dpe_client.proofs.Taking.{taken_handles, taken_boxes, taken_all}
 use Rattle.dpe_client.proofs.values.Values.take.Goals as goal
