@@ -1,9 +1,9 @@
 -- What a step of a connection says, by how it ended.
-use Rattle.std.proofs.Common.{◌≡◌, ℕ, List, Option, None, Some, refl, sym, ap, subst, ◌∙◌}
+use Rattle.std.proofs.Common.{◌≡◌, ℕ, List, Option, None, refl, sym, ap, ◌∙◌}
 use Rattle.dpe_io.specs.Causes.{Other}
 use Rattle.dpe_serve.specs.Conn.{Conn}
-use Rattle.dpe_serve.specs.Endings.{Ending, ending_of, HasEntropyCause}
-use Rattle.dpe_serve.specs.Steps.{ReadsNone, ReceivesNone}
+use Rattle.dpe_serve.specs.Endings.{ending_of}
+use Rattle.dpe_serve.specs.Steps.{ReceivesNone}
 use Rattle.dpe_serve.specs.declared.connection.End.{End}
 use Rattle.dpe_serve.specs.declared.connection.End.TheVariants as ends
 
@@ -13,25 +13,6 @@ pub beside_stays : {C : Type 0} (beside : C → Other) (bytes : C → Option (Li
 beside_stays beside bytes faults law old new same =
     let both = sym (law new) ∙ (same ∙ law old) in
     (ap (λ (o : Other). o.bytes) both, ap (λ (o : Other). o.faults) both)
-
--- where no frame was read, no word was drawn
-pub undrawn : (end : End) (old new : Conn) (faults : ℕ) → ReadsNone (ending_of end None) old new → HasEntropyCause (ending_of end None) faults faults
-undrawn ends.Closed old new faults h = refl
-undrawn (ends.Full ticket) old new faults h = refl
-undrawn (ends.Cut have) old new faults h = refl
-undrawn (ends.TooLong told) old new faults h = refl
-undrawn ends.ReadFault old new faults h = refl
-undrawn ends.WriteFault old new faults h = refl
-undrawn ends.EntropyFault old new faults h = absurd h
-
-pub unread : (end : End) (old new : Conn) → ReadsNone (ending_of end None) old new → ReceivesNone (ending_of end None) old new
-unread ends.Closed old new h = h
-unread (ends.Full ticket) old new h = absurd h
-unread (ends.Cut have) old new h = h
-unread (ends.TooLong told) old new h = h
-unread ends.ReadFault old new h = h
-unread ends.WriteFault old new h = absurd h
-unread ends.EntropyFault old new h = absurd h
 
 -- how a connection ended that received no command doesn't hang on the pass
 pub unreceived : (end : End) (kept : Option ℕ) (old new : Conn) → ReceivesNone (ending_of end None) old new → ending_of end None ≡ ending_of end kept

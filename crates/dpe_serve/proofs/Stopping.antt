@@ -1,6 +1,5 @@
 -- How the loop over a connection's commands ends.
 use Rattle.std.proofs.Common.{◌≡◌, ◌≢◌, ℕ, ◌+◌, ◌≤◌, ◌⊎◌, inl, inr, List, [], ◌∷◌, ◌++◌, Option, None, Some, refl, sym, ap, subst, ◌∙◌, append-nil, length, length-append, flat_map, map, arith}
-use Rattle.std.specs.Prelude.{IsSome, is_some}
 use Rattle.std.specs.List.{AllByRecursion}
 use Rattle.std.specs.Io.KnownBytes.{Consumes, Appends}
 use Rattle.std.proofs.KnownBytes.{Consumes-trans}
@@ -15,7 +14,7 @@ use Rattle.dpe_model.specs.History.{Entry}
 use Rattle.dpe_journal.specs.Entries.{Sent, entry_from}
 use Rattle.dpe_serve.specs.Conn.{Conn, KeepsCounts}
 use Rattle.dpe_serve.specs.Drawn.{AreDrawn, Draws}
-use Rattle.dpe_serve.specs.Endings.{Ending, ending_of, closed, cut, too_long, read_fault, entropy_fault, full, reply_fault, refusal_fault, unanswered, HasEntropyCause, words_more, KeepsTicket}
+use Rattle.dpe_serve.specs.Endings.{Ending, ending_of, closed, cut, too_long, read_fault, entropy_fault, full, reply_fault, refusal_fault, unanswered, words_more}
 use Rattle.dpe_serve.specs.Passes.{Seat, MadeJust, history_of}
 use Rattle.dpe_serve.specs.Served.{journal_full, output, all_but_last, IsRest, Faults, Writes}
 use Rattle.dpe_serve.specs.Steps.{Receives, ReadsNoFrame, ReceivesNone, Sends, SendsFront}
@@ -247,20 +246,6 @@ module _ (caller connection locality index capacity : ℕ) (v w : Seat) (old now
       subst (λ (ending : Ending). ServedBy caller connection capacity locality ending v w old next words then) (unreceived end w.full now next n)
       (subst (λ (o : Option (List (List ℕ))). ServedBy caller connection capacity locality (ending_of end None) v w old next words o) (sym same) (stops_receiving next (ending_of end None) n))
 
-  ticket_unseen : (next : Conn) (ending : Ending) → ReceivesNone ending now next → KeepsTicket ending v.full w.full
-  ticket_unseen next closed n = s.ticket
-  ticket_unseen next (cut have) n = s.ticket
-  ticket_unseen next (too_long told) n = s.ticket
-  ticket_unseen next read_fault n = s.ticket
-  ticket_unseen next entropy_fault n = s.ticket
-  ticket_unseen next (full ticket) n = absurd n
-  ticket_unseen next reply_fault n = absurd n
-  ticket_unseen next refusal_fault n = absurd n
-
-  pub ticket_unmet : (next : Conn) (end : End) → ReceivesNone (ending_of end None) now next → KeepsTicket (ending_of end w.full) v.full w.full
-  ticket_unmet next end n =
-      subst (λ (ending : Ending). KeepsTicket ending v.full w.full) (unreceived end w.full now next n) (ticket_unseen next (ending_of end None) n)
-
   -- a command was received, and got no whole reply of its own
   pub stops_answering : (w' : Seat) (mid next : Conn) (then : Option (List (List ℕ))) (sent : Sent) (random payload : List ℕ) (ending : Ending)
       → Next caller connection locality index v w old now words left s sent random payload → Receives now mid payload → DrawsWord left then random
@@ -273,28 +258,3 @@ module _ (caller connection locality index capacity : ℕ) (v w : Seat) (old now
   stops_answering w' mid next then sent random payload (full ticket) n r d a = stops_full w' mid next then random payload ticket r d a.0 a.1
   stops_answering w' mid next then sent random payload reply_fault n r d a = stops_replying w' mid next then sent random payload n r d a
   stops_answering w' mid next then sent random payload refusal_fault n r d a = stops_refusing w' mid next then random payload a.0 r d a.1 a.2
-
-  pub ticket_met : (w' : Seat) (mid next : Conn) (sent : Sent) (ending : Ending) → AnswersNone ending capacity w w' sent mid next → KeepsTicket ending v.full w'.full
-  ticket_met w' mid next sent closed a = absurd a
-  ticket_met w' mid next sent (cut have) a = absurd a
-  ticket_met w' mid next sent (too_long told) a = absurd a
-  ticket_met w' mid next sent read_fault a = absurd a
-  ticket_met w' mid next sent entropy_fault a = absurd a
-  ticket_met w' mid next sent (full ticket) a = a.0.kept
-  ticket_met w' mid next sent reply_fault a = a.makes.not_full.1 ∙ (sym a.makes.not_full.0 ∙ s.ticket)
-  ticket_met w' mid next sent refusal_fault a = ap is_some a.1.kept
-
--- a command that was received had its random bytes drawn
-pub drew : (ending : Ending) (capacity : ℕ) (w w' : Seat) (sent : Sent) (mid next : Conn) (before now : ℕ) → now ≡ before → AnswersNone ending capacity w w' sent mid next → HasEntropyCause ending before now
-drew closed capacity w w' sent mid next before now same a = absurd a
-drew (cut have) capacity w w' sent mid next before now same a = absurd a
-drew (too_long told) capacity w w' sent mid next before now same a = absurd a
-drew read_fault capacity w w' sent mid next before now same a = absurd a
-drew entropy_fault capacity w w' sent mid next before now same a = absurd a
-drew (full ticket) capacity w w' sent mid next before now same a = same
-drew reply_fault capacity w w' sent mid next before now same a = same
-drew refusal_fault capacity w w' sent mid next before now same a = same
-
--- the count of the entropy had been kept so far
-pub cause_since : (ending : Ending) (old before now : ℕ) → before ≡ old → HasEntropyCause ending before now → HasEntropyCause ending old now
-cause_since ending old before now same h = subst (λ (n : ℕ). HasEntropyCause ending n now) same h
