@@ -1,5 +1,5 @@
 -- A pass over several calls.
-use Rattle.std.proofs.Common.{◌≡◌, ℕ, ◌<◌, ◌≤◌, List, Some, refl, ap, sym, subst, ◌∙◌, arith}
+use Rattle.std.proofs.Common.{◌≡◌, ℕ, ◌<◌, List, refl, ap, sym, subst, ◌∙◌, arith}
 use Rattle.dpe_desk.specs.Entries.{times}
 use Rattle.dpe_desk.specs.Passes.{PassView, Grows, own_name, first_of}
 use Rattle.dpe_desk.proofs.Lists.{prefix_self, prefix_trans}

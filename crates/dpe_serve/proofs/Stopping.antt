@@ -1,6 +1,5 @@
 -- How the loop over a connection's commands ends.
-use Rattle.std.proofs.Common.{◌≡◌, ◌≢◌, ℕ, ◌+◌, ◌≤◌, ◌⊎◌, inl, inr, List, [], ◌∷◌, ◌++◌, Option, None, Some, refl, sym, ap, subst, ◌∙◌, append-nil, length, length-append, flat_map, map, arith}
-use Rattle.std.specs.List.{AllByRecursion}
+use Rattle.std.proofs.Common.{◌≡◌, ℕ, ◌≤◌, ◌⊎◌, inl, inr, List, [], ◌∷◌, ◌++◌, Option, None, refl, sym, ap, subst, ◌∙◌, append-nil, length, length-append, flat_map, map, arith}
 use Rattle.std.specs.Io.KnownBytes.{Consumes, Appends}
 use Rattle.std.proofs.KnownBytes.{Consumes-trans}
 use mathlib.Core.List.{IsPrefix}
@@ -8,15 +7,15 @@ use Rattle.dpe_desk.specs.Passes.{own_name}
 use Rattle.dpe_io.specs.Causes.{Rose}
 use Rattle.dpe_io.specs.Told.{IfTold}
 use Rattle.dpe_io.specs.Told.{Draws as DrawsWord}
-use Rattle.dpe_link.specs.Frames.{frame, Frames, IsUnfinished, IsTooLong}
+use Rattle.dpe_link.specs.Frames.{frame, IsUnfinished, IsTooLong}
 use Rattle.dpe_messages.specs.Replies.{refusal}
 use Rattle.dpe_model.specs.History.{Entry}
 use Rattle.dpe_journal.specs.Entries.{Sent, entry_from}
 use Rattle.dpe_serve.specs.Conn.{Conn, KeepsCounts}
 use Rattle.dpe_serve.specs.Drawn.{AreDrawn, Draws}
 use Rattle.dpe_serve.specs.Endings.{Ending, ending_of, closed, cut, too_long, read_fault, entropy_fault, full, reply_fault, refusal_fault, unanswered, words_more}
-use Rattle.dpe_serve.specs.Passes.{Seat, MadeJust, history_of}
-use Rattle.dpe_serve.specs.Served.{journal_full, output, all_but_last, IsRest, Faults, Writes}
+use Rattle.dpe_serve.specs.Passes.{Seat, history_of}
+use Rattle.dpe_serve.specs.Served.{journal_full, output, IsRest, Faults, Writes}
 use Rattle.dpe_serve.specs.Steps.{Receives, ReadsNoFrame, ReceivesNone, Sends, SendsFront}
 use Rattle.dpe_serve.specs.Turns.{MeetsFull, AnswersPart, AnswersNone}
 use Rattle.dpe_serve.specs.ServedBy.{ServedBy}

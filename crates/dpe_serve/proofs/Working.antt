@@ -1,6 +1,6 @@
 -- What the loop over a door's connections keeps.
-use Rattle.std.proofs.Common.{◌≡◌, ◌≢◌, ℕ, ◌+◌, ◌-◌, ◌^◌, ◌<◌, ◌≤◌, min, Bool, true, false, cond, List, [], ◌∷◌, ◌++◌, Option, None, Some, refl, sym, ap, subst, ◌∙◌, append_assoc, append-nil, length, length-append, map, arith}
-use Rattle.std.specs.Prelude.{filter, count_by, ◌==◌, ◌&&◌}
+use Rattle.std.proofs.Common.{◌≡◌, ◌≢◌, ℕ, ◌+◌, ◌<◌, ◌≤◌, Bool, true, false, cond, List, [], ◌∷◌, ◌++◌, Option, None, Some, refl, sym, ap, subst, ◌∙◌, append_assoc, append-nil, length, length-append, map, arith}
+use Rattle.std.specs.Prelude.{◌==◌, ◌&&◌}
 use Rattle.std.specs.List.{AllByRecursion}
 use Rattle.std.proofs.lemmas.Bool.Decides.{nat_tests}
 use Rattle.std.proofs.lemmas.List.{map-append}
@@ -23,7 +23,7 @@ use Rattle.dpe_serve.specs.Workers.{Visit, IsFrom, RoseBy, GoThrough, IsFaultles
 use Rattle.dpe_serve.specs.declared.worker.Tally.{Tally}
 use Rattle.dpe_serve.specs.declared.connection.End.{End}
 use Rattle.dpe_serve.specs.declared.connection.End.TheVariants as ends
-use Rattle.dpe_serve.proofs.Calls.{of_caller, on_connection, all_found}
+use Rattle.dpe_serve.proofs.Calls.{of_caller, on_connection}
 use Rattle.dpe_serve.proofs.Outputs.{all_more}
 
 -- ## The entries of one number

@@ -1,4 +1,3 @@
-use Rattle.std.proofs.Common.{refl}
 use Rattle.dpe_serve.proofs.StepLemmas.{beside_stays}
 use Rattle.dpe_serve.proofs.connection.read_command.Goals as goal
 

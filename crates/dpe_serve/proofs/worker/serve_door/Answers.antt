@@ -1,4 +1,4 @@
-use Rattle.std.proofs.Common.{◌≡◌, ℕ, ◌+◌, ◌≤◌, Bool, true, false, cond, refl, ap, sym, subst, ◌∙◌, arith}
+use Rattle.std.proofs.Common.{ℕ, ◌+◌, ◌≤◌, Bool, true, false, cond, refl, ap, sym, subst, ◌∙◌, arith}
 use Rattle.dpe_desk.specs.Passes.{own_name}
 use Rattle.dpe_io.specs.Told.{Lists}
 use Rattle.std.specs.Prelude.{Option, None}
