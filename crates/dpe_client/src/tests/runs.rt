@@ -25,7 +25,7 @@ pub struct Failing<'a> {
     pub prints: &'a [u32],
 }
 
-pub static NEVER: Failing<'static> = Failing {
+pub const NEVER: Failing<'static> = Failing {
     openings: &[],
     script: &[],
     reads: &[],
