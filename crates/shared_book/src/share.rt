@@ -1,8 +1,8 @@
 //! A desk over a book, and two threads that act on it.
-ghost use Rattle.std.specs.Prelude.{◌≡◌, ◌+◌, ◌*◌, ◌≤◌, [], ◌∷◌, ◌++◌, length, IfOk, None};
+ghost use Rattle.std.specs.Prelude.{◌≡◌, ◌+◌, ◌≤◌, [], ◌∷◌, ◌++◌, IfOk};
 ghost use Rattle.std.specs.Thread.{IsSync};
 ghost use Rattle.dpe_desk.specs.Passes.{Belongs, IsFresh};
-ghost use Rattle.shared_book.specs.Acting.{Acted};
+ghost use Rattle.shared_book.specs.Acting.{Acted, ActedBoth};
 
 use dpe_desk::{Desk, NoMemory, Pass};
 use dpe_io::Packet;
@@ -37,7 +37,7 @@ pub fn open(
 /// Makes a call so many times by one pass, or as often as the desk has room for: then the pass is full.
 pub fn act_often<R: Wait>(rt: &R, desk: &Desk<Book>, pass: &mut Pass<Book>, call: &Call, times: u32)
     requires { Belongs desk.now pass.old }
-    ensures { Acted desk.now pass.old pass.new times }
+    ensures { Acted desk.now pass.old pass.new call.now times }
 {
     let mut reply = Packet::new();
     for _time in 0..times {
@@ -60,20 +60,20 @@ pub fn act_both<R: Threads + Wait + Sync>(
     ensures belongs { Belongs desk.now result }
     ensures names { result.view.names ≡ one.view.names ++ other.view.names }
     ensures stake { result.view.stake ≡ one.view.stake + other.view.stake }
-    ensures all { result.view.full ≡ None → length result.view.made ≡ length one.view.made + length other.view.made + 2 * times }
+    ensures acted { ActedBoth one.view other.view result.view call.now times }
 {
     let (mut one, other) = thread::join(
         rt,
         move || -> Pass<Book>
             requires { IsSync R.row × Belongs desk.now one }
-            ensures { Acted desk.entry.now one result times }
+            ensures { Acted desk.entry.now one result call.entry.now times }
         {
             act_often(rt, desk, &mut one, call, times);
             one
         },
         move || -> Pass<Book>
             requires { IsSync R.row × Belongs desk.now other }
-            ensures { Acted desk.entry.now other result times }
+            ensures { Acted desk.entry.now other result call.entry.now times }
         {
             act_often(rt, desk, &mut other, call, times);
             other
