@@ -37,6 +37,7 @@ fn a_desk_over_a_book_of_two_entries_is_full_from_the_third_call_on(
 ) -> Result<(), Fail> {
     let (desk, mut first) = open(rt.alloc(), &[0; 32], 1, 2)?;
     let mut second = desk.split(&mut first, 1);
+    assert_eq!(rt; desk.capacity(), 2);
     let profile = call_of(&PROFILE);
     let mut reply = Packet::new();
     assert_eq!(rt; desk.act(&rt, &mut first, &profile, &mut reply), Ok(0));

@@ -1,4 +1,3 @@
-use Rattle.std.proofs.Common.{◌≡◌, ◌+◌, length}
 use Rattle.shared_book.specs.Acting.{Acted}
 use Rattle.shared_book.proofs.share.act_often.Given as goal
 
