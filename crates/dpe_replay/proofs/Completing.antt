@@ -1,17 +1,16 @@
 -- Right words and files, and no fault, give the status of what the bytes are found to be.
-use Rattle.std.proofs.Common.{◌≡◌, ◌≢◌, ℕ, ◌+◌, ◌<◌, ◌≤◌, ◌^◌, List, [], ◌∷◌, length, Option, Some, None, ◌⊎◌, inl, inr, refl, sym, ap, subst, ◌∙◌, codes, arith}
-use Rattle.std.specs.Fmt.{decimal}
+use Rattle.std.proofs.Common.{◌≡◌, ◌≢◌, ℕ, ◌<◌, List, [], ◌∷◌, length, Option, Some, None, ◌⊎◌, inl, inr, refl, sym, ap, subst, ◌∙◌, arith}
 use Rattle.std.proofs.lemmas.Fmt.{decimal_injective}
 use Rattle.dpe_io.specs.Causes.{Rose}
-use Rattle.dpe_io.specs.Told.{Kind, IfTold, Opens}
+use Rattle.dpe_io.specs.Told.{Kind, IfTold}
 use Rattle.dpe_journal.specs.declared.records.RecordFault.{RecordFault}
 use Rattle.dpe_journal.specs.declared.records.RecordFault.TheVariants.{Malformed, Truncated, ReadFault}
 use Rattle.dpe_replay.specs.Audit.{Tells}
 use Rattle.dpe_replay.specs.Finding.{Finding, whole, faulty, differing, begun, Finds, status_of, fault_status}
 use Rattle.dpe_replay.specs.Mode.{Mode, check, live, list, connection, Judges}
-use Rattle.dpe_replay.specs.Replay.{status_at, SameCounts, CountRose, Audits, TakesSeed, Replays, NotOpened, FailsToRead, RunEnds, TellsOne, TellsTwo, TellsFiles, HasRunCause, IsOfBytes, IsVerdict}
-use Rattle.dpe_replay.specs.Shelves.{Lends, HasSeed, HasWrongSize, HasNoSeed}
-use Rattle.dpe_replay.specs.Words.{IsRequest, NamesBoth, NamesJournal, NamesConnection}
+use Rattle.dpe_replay.specs.Replay.{status_at, SameCounts, CountRose, TakesSeed, Replays, RunEnds, TellsFiles, HasRunCause, IsOfBytes, IsVerdict}
+use Rattle.dpe_replay.specs.Shelves.{Lends, HasSeed, HasWrongSize}
+use Rattle.dpe_replay.specs.Words.{IsRequest, NamesConnection}
 use Rattle.dpe_replay.specs.declared.audit.End.{End}
 use Rattle.dpe_replay.specs.declared.audit.End.TheVariants as ends
 use Rattle.dpe_replay.proofs.OneThing.{one_finding}

@@ -1,28 +1,27 @@
 -- What the audit of a journal finds, and how it ends.
-use Rattle.std.proofs.Common.{◌≡◌, ◌≢◌, ℕ, ◌+◌, ◌<◌, ◌≤◌, ◌^◌, List, [], ◌∷◌, ◌++◌, length, take, Option, ◌⊎◌, inl, inr, refl, sym, ap, subst, ◌∙◌, append_assoc, append-nil, flat_map, arith}
+use Rattle.std.proofs.Common.{◌≡◌, ℕ, ◌+◌, ◌<◌, ◌^◌, List, [], ◌∷◌, ◌++◌, length, take, Option, inl, inr, refl, sym, ap, subst, ◌∙◌, append-nil, flat_map, arith}
 use Rattle.std.specs.Prelude.{count_by}
 use Rattle.std.proofs.lemmas.List.{length-append}
-use Rattle.std.specs.Io.KnownBytes.{Consumes, Appends, Keeps, IsAtEnd}
+use Rattle.std.specs.Io.KnownBytes.{Consumes, Appends, Keeps}
 use Rattle.std.proofs.KnownBytes.{Consumes-nil, Consumes-trans, Appends-trans, Appends-kept}
 use Rattle.dpe_io.specs.Causes.{Rose}
 use Rattle.dpe_text.specs.Writing.{AppendsFront}
 use Rattle.dpe_text.proofs.Fronts.{then_front}
-use Rattle.dpe_model.specs.History.{Entry, IsEntry, Legal, reply_to, state_after}
+use Rattle.dpe_model.specs.History.{Entry, Legal, reply_to, state_after}
 use Rattle.dpe_model.specs.State.{Machine, start}
-use Rattle.dpe_journal.specs.Journal.{header_bytes, record_bytes, end_bytes, journal_bytes}
+use Rattle.dpe_journal.specs.Journal.{header_bytes, record_bytes, end_bytes}
 use Rattle.dpe_journal.specs.Reading.{StopsThere, FaultCause}
 use Rattle.dpe_journal.specs.Stages.{at_front, behind}
 use Rattle.dpe_journal.specs.declared.records.RecordFault.{RecordFault}
 use Rattle.dpe_journal.specs.declared.records.RecordFault.TheVariants.{Malformed, Truncated, ReadFault}
 use Rattle.dpe_replay.specs.Audit.{Tells, Unsent, Ends, HasEndCause, IsPrinted, end_of, Told}
 use Rattle.dpe_replay.specs.Finding.{Finding, whole, faulty, differing, begun, Finds, status_of}
-use Rattle.dpe_replay.specs.Front.{Front, nothing, headed, front_bytes, stage_of, IsSound}
-use Rattle.dpe_replay.specs.Judging.{machine_after, AllLegal, LastDiffers, StopsBehind}
+use Rattle.dpe_replay.specs.Front.{Front, nothing, headed, front_bytes}
+use Rattle.dpe_replay.specs.Judging.{AllLegal, LastDiffers, StopsBehind}
 use Rattle.dpe_replay.specs.Listing.{ListsAll, ListsUntil, ListsFront}
 use Rattle.dpe_replay.specs.Listing as listed
 use Rattle.dpe_replay.specs.Mode.{Mode, Judged, Judges}
 use Rattle.dpe_replay.specs.Printed.{text_of, whole_text, lines, fault_text, difference_text, count_text, live_text, is_refused}
-use Rattle.dpe_replay.specs.Taking.{HasRead}
 use Rattle.dpe_replay.specs.Verdicts.{mode_of, verdict_text}
 use Rattle.dpe_replay.specs.declared.audit.End.{End}
 use Rattle.dpe_replay.specs.declared.audit.End.TheVariants as ends

@@ -1,10 +1,9 @@
 -- What the loop over the records that are judged keeps, and how it ends.
-use Rattle.std.proofs.Common.{◌≡◌, ◌≢◌, ℕ, ◌+◌, ◌<◌, ◌≤◌, List, [], ◌∷◌, ◌++◌, Bool, true, false, cond, length, take, Option, refl, sym, ap, subst, ◌∙◌, arith}
-use Rattle.std.specs.Prelude.{count_by}
+use Rattle.std.proofs.Common.{◌≡◌, ℕ, ◌+◌, ◌<◌, ◌≤◌, List, [], ◌∷◌, ◌++◌, cond, length, Option, refl, sym, ap, ◌∙◌, arith}
 use Rattle.std.proofs.lemmas.List.{length-append}
 use Rattle.std.proofs.lemmas.List.Sums.{sum_by_push, count_by-le-length}
 use Rattle.std.specs.Io.KnownBytes.{Consumes, IsAtEnd}
-use Rattle.dpe_model.specs.History.{Entry, IsEntry, LegalFrom, after_all, reply_to}
+use Rattle.dpe_model.specs.History.{Entry, IsEntry, after_all}
 use Rattle.dpe_model.specs.State.{State, Machine}
 use Rattle.dpe_model.proofs.Runs.{legal_append, legal_one, after_append}
 use Rattle.dpe_journal.specs.Journal.{most_records, record_bytes, end_bytes}

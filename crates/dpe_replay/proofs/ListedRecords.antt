@@ -5,7 +5,7 @@ use Rattle.std.specs.Io.KnownBytes.{Consumes, Appends, IsAtEnd}
 use Rattle.std.proofs.KnownBytes.{Appends-nil, Appends-trans}
 use Rattle.dpe_text.specs.Writing.{AppendsFront}
 use Rattle.dpe_text.proofs.Fronts.{then_front}
-use Rattle.dpe_model.specs.History.{Entry, IsEntry, entries_of_connection}
+use Rattle.dpe_model.specs.History.{Entry, IsEntry}
 use Rattle.dpe_journal.specs.Journal.{most_records, record_bytes, end_bytes}
 use Rattle.dpe_journal.specs.Reading.{StopsThere}
 use Rattle.dpe_journal.specs.Stages.{Stage, behind}

@@ -1,14 +1,14 @@
 -- Bytes are found to be one thing.
-use Rattle.std.proofs.Common.{◌≡◌, ◌≢◌, ℕ, ◌+◌, ◌<◌, ◌≤◌, ◌^◌, List, [], ◌∷◌, ◌++◌, length, take, drop, Option, Some, None, Result, Ok, Err, ◌⊎◌, inl, inr, refl, sym, ap, subst, ◌∙◌, append_assoc, append-nil, flat_map, arith}
+use Rattle.std.proofs.Common.{◌≡◌, ◌≢◌, ℕ, ◌<◌, ◌^◌, List, [], ◌∷◌, ◌++◌, length, drop, Option, Some, None, Result, Ok, Err, ◌⊎◌, inl, inr, refl, sym, ap, subst, ◌∙◌, append_assoc, append-nil, flat_map, arith}
 use Rattle.std.specs.List.{AllByRecursion}
-use Rattle.std.proofs.lemmas.List.{length-append, take-append-drop, take-append-le, take_at}
+use Rattle.std.proofs.lemmas.List.{length-append}
 use Rattle.std.specs.Io.KnownBytes.{Consumes, IsAtEnd}
 use Rattle.dpe_model.specs.History.{Entry, IsEntry, Legal, reply_to, state_after}
 use Rattle.dpe_model.specs.State.{start}
-use Rattle.dpe_model.proofs.Runs.{front_all, rest_all, legal_front, legal_rest, legal_head}
+use Rattle.dpe_model.proofs.Runs.{rest_all, legal_front, legal_rest, legal_head}
 use Rattle.dpe_journal.specs.Journal.{most_records, header_bytes, record_bytes, end_bytes, journal_bytes}
-use Rattle.dpe_journal.specs.Reading.{StopsThere, ReadsPart, SameAnswer}
-use Rattle.dpe_journal.specs.Stages.{Stage, at_front, behind, part_bytes}
+use Rattle.dpe_journal.specs.Reading.{StopsThere, ReadsPart}
+use Rattle.dpe_journal.specs.Stages.{Stage, at_front, behind}
 use Rattle.dpe_journal.specs.declared.records.Next.{Next}
 use Rattle.dpe_journal.specs.declared.records.Next.TheVariants as nexts
 use Rattle.dpe_journal.specs.declared.records.RecordFault.{RecordFault}
@@ -17,7 +17,7 @@ use Rattle.dpe_journal.proofs.Answering.{same_answer}
 use Rattle.dpe_journal.proofs.Bytes.{cut}
 use Rattle.dpe_journal.proofs.Law.{same_64, same_record}
 use Rattle.dpe_replay.specs.Finding.{Finding, whole, faulty, differing, begun, Finds, FindsWhole, FindsFault, FindsDifference}
-use Rattle.dpe_replay.specs.Front.{Front, nothing, headed, front_bytes, stage_of, IsFront, IsSound}
+use Rattle.dpe_replay.specs.Front.{Front, nothing, headed, front_bytes, stage_of, IsFront}
 use Rattle.dpe_replay.specs.Mode.{Mode, check, live, list, connection, Judged, Judges}
 use Rattle.dpe_replay.specs.Replay.{IsOfBytes, IsVerdict}
 

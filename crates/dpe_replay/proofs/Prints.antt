@@ -1,12 +1,11 @@
 -- Texts that are printed one behind the other.
-use Rattle.std.proofs.Common.{◌≡◌, ℕ, zero, suc, ◌+◌, List, [], ◌∷◌, ◌++◌, length, take, drop, Option, Some, None, Result, Ok, Err, refl, sym, ap, subst, ◌∙◌, append_assoc, append-nil, take_all, arith}
-use Rattle.std.specs.Prelude.{OnOk, OnErr, flat_map, slice_get}
+use Rattle.std.proofs.Common.{◌≡◌, ℕ, zero, suc, ◌+◌, List, [], ◌∷◌, ◌++◌, length, take, drop, Option, Some, Result, Ok, Err, sym, ap, subst, ◌∙◌, append_assoc, append-nil, take_all, arith}
+use Rattle.std.specs.Prelude.{OnOk, OnErr, slice_get}
 use Rattle.std.specs.Option.{option_map}
 use Rattle.std.proofs.lemmas.List.{take-append-drop}
 use Rattle.std.proofs.lemmas.Grind.{flat_map-append}
 use Rattle.std.specs.Io.KnownBytes.{Appends}
 use Rattle.std.proofs.KnownBytes.{Appends-trans}
-use Rattle.dpe_io.specs.Causes.{Rose, HasCause}
 use Rattle.dpe_text.specs.Writing.{AppendsFront}
 use Rattle.dpe_text.proofs.Fronts.{then_front}
 use Rattle.dpe_model.specs.LiveRows.{live_of}

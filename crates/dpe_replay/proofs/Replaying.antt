@@ -1,6 +1,5 @@
 -- How the program ends, from how its parts do.
-use Rattle.std.proofs.Common.{◌≡◌, ◌≢◌, ℕ, ◌+◌, ◌-◌, ◌^◌, ◌<◌, ◌≤◌, List, [], ◌∷◌, ◌++◌, length, take, Option, Some, None, ◌⊎◌, inl, inr, refl, sym, ap, subst, ◌∙◌, append-nil, arith}
-use Rattle.std.specs.Prelude.{min}
+use Rattle.std.proofs.Common.{◌≡◌, ◌≢◌, ℕ, ◌<◌, ◌≤◌, List, [], ◌++◌, length, take, Option, Some, None, inl, inr, refl, sym, ap, subst, ◌∙◌, append-nil, arith}
 use Rattle.std.proofs.lemmas.List.{length-append, length-take}
 use Rattle.std.specs.Io.KnownBytes.{Consumes, IsAtEnd}
 use Rattle.dpe_io.specs.Causes.{Rose}
@@ -9,8 +8,8 @@ use Rattle.dpe_journal.specs.Places.{Reading}
 use Rattle.dpe_journal.specs.Stages.{at_front}
 use Rattle.dpe_replay.specs.Audit.{Ends, HasEndCause}
 use Rattle.dpe_replay.specs.Mode.{Mode, check, live, list, connection, Judges}
-use Rattle.dpe_replay.specs.Replay.{SameCounts, CountRose, Audits, TakesSeed, Replays, NotOpened, RunEnds, FileEnds, HasRunCause}
-use Rattle.dpe_replay.specs.Shelves.{Lends, HasSeed, HasWrongSize, IsUnread, HasNoSeed, ReadsSeed, GivesSeed, HasSeedCause}
+use Rattle.dpe_replay.specs.Replay.{SameCounts, CountRose, Audits, TakesSeed, Replays, RunEnds, FileEnds, HasRunCause}
+use Rattle.dpe_replay.specs.Shelves.{Lends, HasSeed, HasNoSeed, ReadsSeed, GivesSeed, HasSeedCause}
 use Rattle.dpe_replay.specs.declared.audit.End.{End}
 use Rattle.dpe_replay.specs.declared.audit.End.TheVariants as ends
 use Rattle.dpe_replay.specs.declared.seed.SeedFile.{SeedFile}

@@ -1,5 +1,5 @@
 -- What an audit finds in the bytes of a journal that a source gives, from their front to where it stops.
-use Rattle.std.specs.Prelude.{ℕ, ◌≡◌, ◌≢◌, List, [], ◌∷◌, ◌++◌, length, Option, Some}
+use Rattle.std.specs.Prelude.{ℕ, ◌≢◌, List, [], ◌∷◌, ◌++◌, length, Option}
 use Rattle.std.specs.Io.KnownBytes.{Consumes, IsAtEnd}
 use Rattle.dpe_model.specs.History.{Entry, Legal, reply_to, state_after}
 use Rattle.dpe_journal.specs.Journal.{journal_bytes}

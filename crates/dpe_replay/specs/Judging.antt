@@ -1,9 +1,9 @@
 -- How far the replies of the records behind a header are those that a machine gives.
-use Rattle.std.specs.Prelude.{ℕ, ◌+◌, ◌≤◌, ◌≡◌, ◌≢◌, List, [], ◌∷◌, ◌++◌, length, take, count_by, Option, flat_map}
+use Rattle.std.specs.Prelude.{ℕ, ◌≤◌, ◌≡◌, ◌≢◌, List, [], ◌∷◌, ◌++◌, length, take, count_by, Option}
 use Rattle.std.specs.Io.KnownBytes.{Consumes, IsAtEnd}
 use Rattle.dpe_model.specs.History.{Entry, LegalFrom, after_all, reply_to}
 use Rattle.dpe_model.specs.State.{Machine}
-use Rattle.dpe_journal.specs.Journal.{record_bytes, end_bytes}
+use Rattle.dpe_journal.specs.Journal.{end_bytes}
 use Rattle.dpe_journal.specs.Reading.{StopsThere, FaultCause}
 use Rattle.dpe_journal.specs.Stages.{Stage, behind}
 use Rattle.dpe_journal.specs.declared.records.RecordFault.{RecordFault}

@@ -1,5 +1,5 @@
 -- How the program ends: the files that it opened and handed back, what it found in them, and what it printed.
-use Rattle.std.specs.Prelude.{ℕ, ◌≡◌, ◌≢◌, ◌⊎◌, List, [], ◌∷◌, Option, Some}
+use Rattle.std.specs.Prelude.{ℕ, ◌≡◌, ◌≢◌, ◌⊎◌, List, [], ◌∷◌, length, Option, Some}
 use Rattle.dpe_io.specs.Causes.{Rose}
 use Rattle.dpe_io.specs.Told.{Kind, OpensNone}
 use Rattle.dpe_replay.specs.Audit.{Ends}
@@ -152,3 +152,31 @@ abbrev pub OneFinding : Type 0
 OneFinding =
     (mode : Mode) (seed bytes : List ℕ) (left other : Option (List ℕ)) (f g : Finding) →
     Finds mode seed (Some bytes) left f → Finds mode seed (Some bytes) other g → IsVerdict f → IsVerdict g → f ≡ g
+
+-- ## What is to come of right words, and files that are told
+
+-- The words ask for an audit. Of the files that the shelf tells, the seed's has 32 bytes, where one is needed, and this is
+-- found in the journal's bytes.
+pub record Expects {T : Type 0} (left : T → Option (List ℕ)) (words : List (List ℕ)) (files : Option (List T)) (finding : Finding) : Type 0 where
+  pub mode : Mode
+  pub asked : IsRequest words mode
+  pub seed : List ℕ
+  pub bytes : List ℕ
+  pub told : TellsFiles left mode seed bytes files
+  pub size : Judges mode → length seed ≡ 32
+  pub unread : Option (List ℕ)
+  pub finds : Finds mode seed (Some bytes) unread finding
+  pub verdict : IsVerdict finding
+
+-- The words ask for an audit that needs a seed, and the shelf's first file hasn't 32 bytes.
+pub record ExpectsNoSeed {T : Type 0} (left : T → Option (List ℕ)) (words : List (List ℕ)) (files : Option (List T)) : Type 0 where
+  pub mode : Mode
+  pub asked : IsRequest words mode
+  pub judges : Judges mode
+  pub seed : List ℕ
+  pub told : TellsOne left files seed
+  pub size : length seed ≢ 32
+
+-- no count of the files rose
+abbrev pub FilesFaultless : {T : Type 0} → Kind T → Kind T → Type 0
+FilesFaultless old new = CountRose old new → ⊥

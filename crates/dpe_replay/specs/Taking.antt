@@ -2,7 +2,6 @@
 use Rattle.std.specs.Prelude.{ℕ, ◌+◌, ◌<◌, ◌≤◌, ◌≡◌, List, length, Option, flat_map}
 use Rattle.std.specs.List.{AllByRecursion}
 use Rattle.std.specs.Io.KnownBytes.{Consumes, IsAtEnd}
-use Rattle.dpe_io.specs.Causes.{Rose}
 use Rattle.dpe_model.specs.History.{Entry, IsEntry}
 use Rattle.dpe_journal.specs.Journal.{most_records, record_bytes, end_bytes}
 use Rattle.dpe_journal.specs.Reading.{StopsThere, FaultCause}

@@ -110,7 +110,8 @@ fn judge_journal<S: Source, O: Sink>(
     requires at { records.old.at ≡ 0 }
     ensures ends { Ends result (mode_viewing view) seed.now (S.left records.old.source) (S.left records.new.source)
         (O.bytes out.old) (O.bytes out.new) }
-    ensures cause { HasEndCause result (S.faults records.old.source) (S.faults records.new.source) (O.faults out.old) (O.faults out.new) }
+    ensures cause { HasEndCause result (S.faults records.old.source) (S.faults records.new.source)
+        (O.faults out.old) (O.faults out.new) }
     ensures untouched { result ≡ End.NoMemory → out.new ≡ out.old }
 {
     let mut entry = Entry::new();
@@ -137,7 +138,8 @@ fn list_journal<S: Source, O: Sink>(choice: Choice, records: &mut Records<S>, ou
     requires at { records.old.at ≡ 0 }
     ensures ends { Ends result (mode_listing choice) [] (S.left records.old.source) (S.left records.new.source)
         (O.bytes out.old) (O.bytes out.new) }
-    ensures cause { HasEndCause result (S.faults records.old.source) (S.faults records.new.source) (O.faults out.old) (O.faults out.new) }
+    ensures cause { HasEndCause result (S.faults records.old.source) (S.faults records.new.source)
+        (O.faults out.old) (O.faults out.new) }
     ensures memory { result ≢ End.NoMemory }
 {
     let mut entry = Entry::new();
@@ -196,7 +198,8 @@ fn audit_unflushed<S: Source, O: Sink>(
     requires at { records.old.at ≡ 0 }
     ensures ends { Ends result (mode_of task.now) (seed_of task.now) (S.left records.old.source) (S.left records.new.source)
         (O.bytes out.old) (O.bytes out.new) }
-    ensures cause { HasEndCause result (S.faults records.old.source) (S.faults records.new.source) (O.faults out.old) (O.faults out.new) }
+    ensures cause { HasEndCause result (S.faults records.old.source) (S.faults records.new.source)
+        (O.faults out.old) (O.faults out.new) }
     ensures untouched { result ≡ End.NoMemory → out.new ≡ out.old }
 {
     match task {
@@ -216,7 +219,8 @@ pub fn audit_journal<S: Source, O: Sink>(
     requires at { records.old.at ≡ 0 }
     ensures ends { Ends result (mode_of task.now) (seed_of task.now) (S.left records.old.source) (S.left records.new.source)
         (O.bytes out.old) (O.bytes out.new) }
-    ensures cause { HasEndCause result (S.faults records.old.source) (S.faults records.new.source) (O.faults out.old) (O.faults out.new) }
+    ensures cause { HasEndCause result (S.faults records.old.source) (S.faults records.new.source)
+        (O.faults out.old) (O.faults out.new) }
     ensures untouched { result ≡ End.NoMemory → out.new ≡ out.old }
 {
     let end = audit_unflushed(alloc, task, records, out);

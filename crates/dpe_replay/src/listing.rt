@@ -37,8 +37,10 @@ pub enum Listing {
 
 // Prints the line of the entry of this number.
 fn print_record<O: Sink>(number: u32, entry: &Entry, out: &mut O) -> Result<(), Failed>
-    ensures ok { OnOk result (Appends (O.bytes out.old) (O.bytes out.new) (printed.record_line number (entry_of entry.now))) }
-    ensures front { OnErr result (AppendsFront (O.bytes out.old) (O.bytes out.new) (printed.record_line number (entry_of entry.now))) }
+    ensures ok { OnOk result (Appends (O.bytes out.old) (O.bytes out.new)
+        (printed.record_line number (entry_of entry.now))) }
+    ensures front { OnErr result (AppendsFront (O.bytes out.old) (O.bytes out.new)
+        (printed.record_line number (entry_of entry.now))) }
     ensures cause { HasCause (O.faults out.old) (O.faults out.new) result }
 {
     print(out, record_line(number, entry).bytes())
@@ -47,7 +49,8 @@ fn print_record<O: Sink>(number: u32, entry: &Entry, out: &mut O) -> Result<(), 
 // Prints the line of an entry's reply.
 fn print_reply<O: Sink>(entry: &Entry, out: &mut O) -> Result<(), Failed>
     ensures ok { OnOk result (Appends (O.bytes out.old) (O.bytes out.new) (printed.reply_line (entry_of entry.now))) }
-    ensures front { OnErr result (AppendsFront (O.bytes out.old) (O.bytes out.new) (printed.reply_line (entry_of entry.now))) }
+    ensures front { OnErr result (AppendsFront (O.bytes out.old) (O.bytes out.new)
+        (printed.reply_line (entry_of entry.now))) }
     ensures cause { HasCause (O.faults out.old) (O.faults out.new) result }
 {
     print(out, reply_line(entry).bytes())
@@ -108,7 +111,8 @@ pub fn list_records<S: Source, O: Sink>(
     requires { records.old.stage ≡ behind 0 }
     ensures lists { Lists (mode_of choice) (S.left records.old.source) (S.left records.new.source) records.old.at
         (O.bytes out.old) (O.bytes out.new) result }
-    ensures cause { HasListCause (S.faults records.old.source) (S.faults records.new.source) (O.faults out.old) (O.faults out.new) result }
+    ensures cause { HasListCause (S.faults records.old.source) (S.faults records.new.source)
+        (O.faults out.old) (O.faults out.new) result }
 {
     let mut number = 0;
     'records: loop {

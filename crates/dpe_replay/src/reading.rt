@@ -28,10 +28,12 @@ pub fn read_header<S: Source>(
 ) -> Result<u64, RecordFault>
     requires { records.old.stage ≡ at_front }
     ensures range { IfOk result (λ first. first < 2 ^ 64) }
-    ensures header { IfOk result (λ first. Consumes (S.left records.old.source) (S.left records.new.source) (header_bytes first)) }
+    ensures header { IfOk result (λ first. Consumes (S.left records.old.source)
+        (S.left records.new.source) (header_bytes first)) }
     ensures stage { OnOk result (records.new.stage ≡ behind 0) }
     ensures at { OnOk result (records.new.at ≡ records.old.at + 13) }
-    ensures fault { IfErr result (StopsThere (S.left records.old.source) (S.left records.new.source) at_front records.old.at) }
+    ensures fault { IfErr result (StopsThere (S.left records.old.source) (S.left records.new.source)
+        at_front records.old.at) }
     ensures cause { HasReadCause (S.faults records.old.source) (S.faults records.new.source) result }
 {
     match records.next(entry) {

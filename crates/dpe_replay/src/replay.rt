@@ -1,13 +1,14 @@
-ghost use Rattle.std.specs.Prelude.{◌≡◌, ◌≢◌, ◌↔◌, ◌⊎◌, ℕ, List, [], ◌∷◌, length, Option, Some};
+ghost use Rattle.std.specs.Prelude.{◌≡◌, ◌≢◌, ◌↔◌, ◌⊎◌};
 ghost use Rattle.dpe_io.specs.Causes.{Rose};
-ghost use Rattle.dpe_replay.specs.Finding.{Finding, Finds, status_of};
+ghost use Rattle.dpe_replay.specs.Finding.{Finding, status_of};
 ghost use Rattle.dpe_replay.specs.Listing.{mode_of as mode_listing};
-ghost use Rattle.dpe_replay.specs.Mode.{Mode, Judges};
-ghost use Rattle.dpe_replay.specs.Replay.{status_at, IsStatus, ForRequest, HasNoRequest, SameCounts, CountRose, Replays, FailsToRead, RunEnds, FileEnds, TellsFiles, HasRunCause, IsVerdict};
+ghost use Rattle.dpe_replay.specs.Mode.{Judges};
+ghost use Rattle.dpe_replay.specs.Replay.{status_at, IsStatus, ForRequest, HasNoRequest, SameCounts, CountRose, Replays};
+ghost use Rattle.dpe_replay.specs.Replay.{FailsToRead, RunEnds, FileEnds, HasRunCause, Expects, ExpectsNoSeed, FilesFaultless};
 ghost use Rattle.dpe_replay.specs.Shelves.{HasWrongSize};
 ghost use Rattle.dpe_replay.specs.Tasks.{mode_of as mode_of_task, seed_of};
 ghost use Rattle.dpe_replay.specs.Verdicts.{mode_of as mode_viewing};
-ghost use Rattle.dpe_replay.specs.Words.{IsRequest, texts, mode_of};
+ghost use Rattle.dpe_replay.specs.Words.{texts, mode_of};
 
 use crate::audit::{End, Task, audit_journal};
 use crate::listing::Choice;
@@ -27,7 +28,8 @@ fn audit_file<F: Shelf, O: Sink>(
     shelf: &mut F,
     out: &mut O,
 ) -> End
-    ensures ends { FileEnds F.File.left F.File.faults (mode_of_task task.now) (seed_of task.now) (F.files shelf.old) place (F.files shelf.new)
+    ensures ends { FileEnds F.File.left F.File.faults (mode_of_task task.now) (seed_of task.now)
+        (F.files shelf.old) place (F.files shelf.new)
         (O.bytes out.old) (O.bytes out.new) result }
     ensures cause { HasRunCause result (F.files shelf.old) (F.files shelf.new) (O.faults out.old) (O.faults out.new) }
     ensures untouched { result ≡ End.NoMemory → out.new ≡ out.old }
@@ -185,17 +187,14 @@ pub fn replay_main<F: Shelf, O: Sink>(
     ensures files_kept { result ≢ 4 → result ≢ 7 → SameCounts (F.files shelf.old) (F.files shelf.new) }
     ensures handed_back { (F.files shelf.new).out ≡ (F.files shelf.old).out }
 
-    // Right words, a seed of 32 bytes where one is needed, and no fault: the status of what the bytes are found to be, or 3.
-    ensures exact { (mode : Mode) (seed bytes : List ℕ) (left : Option (List ℕ)) (finding : Finding) →
-        IsRequest (texts words.now) mode → TellsFiles F.File.left mode seed bytes (F.files shelf.old).unopened
-        → (Judges mode → length seed ≡ 32) → Finds mode seed (Some bytes) left finding → IsVerdict finding
-        → (CountRose (F.files shelf.old) (F.files shelf.new) → ⊥) → (Rose (O.faults out.old) (O.faults out.new) → ⊥)
+    // Right words, a seed of 32 bytes where one is needed, and no fault: the status of what is found, or 3.
+    ensures exact { (finding : Finding) → Expects F.File.left (texts words.now) (F.files shelf.old).unopened finding
+        → FilesFaultless (F.files shelf.old) (F.files shelf.new) → (Rose (O.faults out.old) (O.faults out.new) → ⊥)
         → (result ≡ status_of finding) ⊎ (result ≡ 3) }
 
     // Right words, a seed of another length, and no fault: 8.
-    ensures no_seed { (mode : Mode) (seed : List ℕ) (first : F.File) (later : List F.File) → IsRequest (texts words.now) mode
-        → (F.files shelf.old).unopened ≡ Some (first ∷ later) → F.File.left first ≡ Some seed → Judges mode → length seed ≢ 32
-        → (CountRose (F.files shelf.old) (F.files shelf.new) → ⊥) → result ≡ 8 }
+    ensures no_seed { ExpectsNoSeed F.File.left (texts words.now) (F.files shelf.old).unopened
+        → FilesFaultless (F.files shelf.old) (F.files shelf.new) → result ≡ 8 }
 {
     let Some(request) = read_words(words) else {
         return 2;

@@ -25,7 +25,8 @@ pub enum View {
 // Prints a line for each live context.
 fn print_contexts<O: Sink>(core: &Core, out: &mut O) -> Result<(), Failed>
     ensures ok { OnOk result (Appends (O.bytes out.old) (O.bytes out.new) (printed.live_text core.now.state.rows)) }
-    ensures front { OnErr result (AppendsFront (O.bytes out.old) (O.bytes out.new) (printed.live_text core.now.state.rows)) }
+    ensures front { OnErr result (AppendsFront (O.bytes out.old) (O.bytes out.new)
+        (printed.live_text core.now.state.rows)) }
     ensures cause { HasCause (O.faults out.old) (O.faults out.new) result }
 {
     for at in 0..core.live() {
@@ -72,7 +73,8 @@ pub fn print_verdict<O: Sink>(
 fn print_number<O: Sink>(name: &[u8], number: u64, out: &mut O) -> Result<(), Failed>
     requires { length name.now ≤ 20 }
     ensures ok { OnOk result (Appends (O.bytes out.old) (O.bytes out.new) (printed.named_number name.now number)) }
-    ensures front { OnErr result (AppendsFront (O.bytes out.old) (O.bytes out.new) (printed.named_number name.now number)) }
+    ensures front { OnErr result (AppendsFront (O.bytes out.old) (O.bytes out.new)
+        (printed.named_number name.now number)) }
     ensures cause { HasCause (O.faults out.old) (O.faults out.new) result }
 {
     print(out, named_number(name, number).bytes())
@@ -83,7 +85,8 @@ fn print_bytes<O: Sink>(name: &[u8], bytes: &[u8], out: &mut O) -> Result<(), Fa
     requires name { length name.now ≤ 20 }
     requires bytes { length bytes.now ≤ 4096 }
     ensures ok { OnOk result (Appends (O.bytes out.old) (O.bytes out.new) (printed.named_bytes name.now bytes.now)) }
-    ensures front { OnErr result (AppendsFront (O.bytes out.old) (O.bytes out.new) (printed.named_bytes name.now bytes.now)) }
+    ensures front { OnErr result (AppendsFront (O.bytes out.old) (O.bytes out.new)
+        (printed.named_bytes name.now bytes.now)) }
     ensures cause { HasCause (O.faults out.old) (O.faults out.new) result }
 {
     print(out, named_bytes(name, bytes).bytes())
@@ -93,8 +96,10 @@ fn print_bytes<O: Sink>(name: &[u8], bytes: &[u8], out: &mut O) -> Result<(), Fa
 fn print_replies<O: Sink>(recorded: &[u8], computed: &[u8], out: &mut O) -> Result<(), Failed>
     requires recorded { length recorded.now ≤ 4096 }
     requires computed { length computed.now ≤ 4096 }
-    ensures ok { OnOk result (Appends (O.bytes out.old) (O.bytes out.new) (printed.replies_text recorded.now computed.now)) }
-    ensures front { OnErr result (AppendsFront (O.bytes out.old) (O.bytes out.new) (printed.replies_text recorded.now computed.now)) }
+    ensures ok { OnOk result (Appends (O.bytes out.old) (O.bytes out.new)
+        (printed.replies_text recorded.now computed.now)) }
+    ensures front { OnErr result (AppendsFront (O.bytes out.old) (O.bytes out.new)
+        (printed.replies_text recorded.now computed.now)) }
     ensures cause { HasCause (O.faults out.old) (O.faults out.new) result }
 {
     match print_bytes(b"recorded ", recorded, out) {
@@ -112,8 +117,10 @@ pub fn print_difference<O: Sink>(
 ) -> Result<(), Failed>
     requires recorded { length recorded.now ≤ 4096 }
     requires computed { length computed.now ≤ 4096 }
-    ensures ok { OnOk result (Appends (O.bytes out.old) (O.bytes out.new) (printed.difference_text number recorded.now computed.now)) }
-    ensures front { OnErr result (AppendsFront (O.bytes out.old) (O.bytes out.new) (printed.difference_text number recorded.now computed.now)) }
+    ensures ok { OnOk result (Appends (O.bytes out.old) (O.bytes out.new)
+        (printed.difference_text number recorded.now computed.now)) }
+    ensures front { OnErr result (AppendsFront (O.bytes out.old) (O.bytes out.new)
+        (printed.difference_text number recorded.now computed.now)) }
     ensures cause { HasCause (O.faults out.old) (O.faults out.new) result }
 {
     match print_number(b"entry ", u64::from(number), out) {

@@ -74,8 +74,10 @@ fn read_list<'a>(name: &str, journal: &'a str) -> Option<Request<'a>>
 
 // `check SEED JOURNAL` or `live SEED JOURNAL`
 fn read_judging<'a>(name: &str, seed: &'a str, journal: &'a str) -> Option<Request<'a>>
-    ensures found { IfSome result (λ request. IsRequest (name.now ∷ seed.entry.now ∷ journal.entry.now ∷ []) (mode_of request)) }
-    ensures none { IfNone result ((mode : Mode) → IsRequest (name.now ∷ seed.entry.now ∷ journal.entry.now ∷ []) mode → ⊥) }
+    ensures found { IfSome result (λ request.
+        IsRequest (name.now ∷ seed.entry.now ∷ journal.entry.now ∷ []) (mode_of request)) }
+    ensures none { IfNone result ((mode : Mode) →
+        IsRequest (name.now ∷ seed.entry.now ∷ journal.entry.now ∷ []) mode → ⊥) }
 {
     if !is_path(seed) {
         return None;

@@ -1,4 +1,4 @@
-use Rattle.std.proofs.Common.{refl, arith, ◌∙◌, List, [], ◌∷◌, ◌++◌, length, ℕ, sym, subst}
+use Rattle.std.proofs.Common.{refl, arith, ◌∙◌, [], ◌∷◌, ◌++◌, length, ℕ, sym, subst}
 use Rattle.std.proofs.lemmas.List.{length-append}
 use Rattle.std.specs.Io.KnownBytes.{Appends}
 use Rattle.dpe_text.specs.Writing.{AppendsFront}

@@ -1,9 +1,9 @@
-use Rattle.std.proofs.Common.{refl, arith, ◌∙◌, ℕ, List, [], sym, subst, take, ◌++◌}
+use Rattle.std.proofs.Common.{refl, ◌∙◌, ℕ, List, sym, subst, take}
 use Rattle.std.specs.Io.KnownBytes.{Appends}
 use Rattle.std.proofs.KnownBytes.{Appends-nil, Appends-trans}
 use Rattle.dpe_text.specs.Writing.{AppendsFront}
 use Rattle.dpe_replay.specs.Printed.{live_line, live_text}
-use Rattle.dpe_replay.proofs.Prints.{contexts_more, contexts_front, contexts_all}
+use Rattle.dpe_replay.proofs.Prints.{contexts_more, contexts_front}
 use Rattle.dpe_replay.proofs.verdict.print_contexts.Goals as goal
 
 pub loop-at-init : goal.loop-at-init
