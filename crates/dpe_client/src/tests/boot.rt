@@ -1,8 +1,11 @@
 // The boot script: six layers over four localities, a link each.
+ghost use Rattle.std.specs.Prelude.{All, OnOk};
+ghost use Rattle.dpe_io.specs.Memory.{IsFaultless};
+
 use super::BOOT;
-use super::runs::{NEVER, link};
-use crate::client_main;
-use dpe_io::{MemDock, MemSink, MemSource};
+use super::runs::{NEVER, link, run};
+use dpe_io::{MemConn, MemDock, MemSink, MemSource};
+use std::alloc::Global;
 use std::test::Fail;
 
 // What the links give back, what is sent on them and what is printed, worked by a model of the DPE in another language.
@@ -80,19 +83,33 @@ static SAID: &[u8] = b"2 0
 16 17
 ";
 
+// Adds a link that gives these bytes.
+fn add_link(alloc: Global, links: &mut Vec<MemConn>, gives: &str) -> Result<(), Fail>
+    requires { All IsFaultless links.old.items }
+    ensures { OnOk result (All IsFaultless links.new.items) }
+{
+    links.push(link(alloc, &hex::decode(alloc, gives)?, &NEVER)?)?;
+    Ok(())
+}
+
+// A dock of the script and its four links.
+fn boot_dock(alloc: Global) -> Result<MemDock, Fail> {
+    let file = MemSource::new(alloc, BOOT, 64, &[])?;
+    let mut links = Vec::new(alloc);
+    add_link(alloc, &mut links, REPLIES[0])?;
+    add_link(alloc, &mut links, REPLIES[1])?;
+    add_link(alloc, &mut links, REPLIES[2])?;
+    add_link(alloc, &mut links, REPLIES[3])?;
+    Ok(MemDock::new(alloc, file, links, &[])?)
+}
+
 #[test]
 fn the_boot_script_runs_whole(rt: HostRuntime) -> Result<(), Fail> {
     let alloc = rt.alloc();
-    let file = MemSource::new(alloc, BOOT, 64, &[])?;
-    let mut links = Vec::new(alloc);
-    links.push(link(alloc, &hex::decode(alloc, REPLIES[0])?, &NEVER)?)?;
-    links.push(link(alloc, &hex::decode(alloc, REPLIES[1])?, &NEVER)?)?;
-    links.push(link(alloc, &hex::decode(alloc, REPLIES[2])?, &NEVER)?)?;
-    links.push(link(alloc, &hex::decode(alloc, REPLIES[3])?, &NEVER)?)?;
-    let mut dock = MemDock::new(alloc, file, links, &[])?;
+    let mut dock = boot_dock(alloc)?;
     let mut out = MemSink::new(alloc, 8_192, 64, &[])?;
     let words = ["script", "a", "b", "c", "d"];
-    assert_eq!(rt; client_main(alloc, &words, &mut dock, &mut out), 0);
+    assert_eq!(rt; run(alloc, &words, &mut dock, &mut out), 0);
     assert_eq!(rt; out.bytes(), SAID);
     assert_eq!(rt; dock.links().len(), 4);
     for (at, sent) in SENT.iter().enumerate() {

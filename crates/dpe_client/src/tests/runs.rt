@@ -50,6 +50,24 @@ pub struct Ran {
     pub out: MemSink,
 }
 
+// The status of a run.
+pub fn run(alloc: Global, words: &[&str], dock: &mut MemDock, out: &mut MemSink) -> u8 {
+    client_main(alloc, words, dock, out)
+}
+
+// A dock of a script and one link that gives these bytes.
+fn one_link(
+    alloc: Global,
+    script: &[u8],
+    gives: &[u8],
+    failing: &Failing<'_>,
+) -> Result<MemDock, Fail> {
+    let file = MemSource::new(alloc, script, 64, failing.script)?;
+    let mut links = Vec::new(alloc);
+    links.push(link(alloc, gives, failing)?)?;
+    Ok(MemDock::new(alloc, file, links, failing.openings)?)
+}
+
 // Runs a script on one link that gives these bytes.
 fn run_on_one(
     alloc: Global,
@@ -57,12 +75,9 @@ fn run_on_one(
     gives: &[u8],
     failing: &Failing<'_>,
 ) -> Result<Ran, Fail> {
-    let file = MemSource::new(alloc, script, 64, failing.script)?;
-    let mut links = Vec::new(alloc);
-    links.push(link(alloc, gives, failing)?)?;
-    let mut dock = MemDock::new(alloc, file, links, failing.openings)?;
+    let mut dock = one_link(alloc, script, gives, failing)?;
     let mut out = MemSink::new(alloc, 8_192, 64, failing.prints)?;
-    let status = client_main(alloc, &["script", "link"], &mut dock, &mut out);
+    let status = run(alloc, &["script", "link"], &mut dock, &mut out);
     Ok(Ran { status, dock, out })
 }
 
@@ -137,7 +152,7 @@ fn faulty_words_open_nothing(rt: HostRuntime) -> Result<(), Fail> {
         let file = MemSource::new(rt.alloc(), b"0 profile", 64, &[])?;
         let mut dock = MemDock::new(rt.alloc(), file, Vec::new(rt.alloc()), &[])?;
         let mut out = MemSink::new(rt.alloc(), 64, 64, &[])?;
-        let status = client_main(rt.alloc(), words, &mut dock, &mut out);
+        let status = run(rt.alloc(), words, &mut dock, &mut out);
         assert_eq!(rt; status, 2);
         assert!(rt; out.bytes().is_empty());
     }
