@@ -50,7 +50,7 @@ pub struct Ran {
     pub out: MemSink,
 }
 
-// The status of a run.
+// The status of a run; no clause: a test looks at what it did, and its proof needs none of that of `client_main`.
 pub fn run(alloc: Global, words: &[&str], dock: &mut MemDock, out: &mut MemSink) -> u8 {
     client_main(alloc, words, dock, out)
 }
