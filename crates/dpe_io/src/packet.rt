@@ -1,4 +1,4 @@
-ghost use Rattle.std.specs.Prelude.{◌≡◌, ◌≤◌, length, []};
+ghost use Rattle.std.specs.Prelude.{◌≡◌, ◌≤◌, length, take, []};
 
 use std::marker::Model;
 
@@ -23,6 +23,9 @@ impl Model for Packet {
 }
 
 impl Packet {
+    ghost use Rattle.std.specs.Borrow.{Lends, Array, sem, u8 as byte};
+    ghost use Rattle.dpe_io.specs.contracts.packet.Packet.{the_row};
+
     /// No bytes.
     pub fn new() -> Packet
         ensures { result ≡ [] }
@@ -48,5 +51,21 @@ impl Packet {
     {
         self.room[..from.len()].copy_from_slice(from);
         self.len = from.len();
+    }
+
+    /// Makes it all the bytes of its room, whatever they are, and lends them to be written over.
+    pub fn whole(&mut self) -> &mut [u8; MAX_PACKET]
+        ensures* writes_back { sem 𝓛 (Lends the_row (Array byte 0) self.entry result (λ bytes. take 4096 bytes)) }
+    {
+        self.len = MAX_PACKET;
+        &mut self.room
+    }
+
+    /// Keeps the first bytes, so many, and drops those behind.
+    pub fn truncate(&mut self, len: usize)
+        requires { len ≤ length self.old }
+        ensures { self.new ≡ take len self.old }
+    {
+        self.len = len;
     }
 }

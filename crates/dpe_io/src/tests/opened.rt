@@ -235,3 +235,18 @@ fn a_packet_is_set_to_the_bytes(rt: HostRuntime) {
     packet.set(&[0; 4096]);
     assert_eq!(rt; packet.bytes().len(), 4096);
 }
+
+#[test]
+fn a_packet_lends_its_room_and_keeps_the_front(rt: HostRuntime) {
+    let mut packet = Packet::new();
+    packet.set(&[1, 2]);
+    let room = packet.whole();
+    room[0] = 5;
+    room[1] = 6;
+    room[2] = 7;
+    assert_eq!(rt; packet.bytes().len(), 4096);
+    packet.truncate(3);
+    assert_eq!(rt; packet.bytes(), [5, 6, 7].as_slice());
+    packet.truncate(0);
+    assert!(rt; packet.bytes().is_empty());
+}
