@@ -1,14 +1,14 @@
 -- Rows that stay in their slots, and the list of the slots' numbers.
-use Rattle.std.proofs.Common.{◌≡◌, ◌≢◌, ℕ, ◌+◌, ◌<◌, ◌≤◌, List, [], ◌∷◌, ◌++◌, AllPairs, All, length, get_or, set, take, drop, map, remove, append_assoc, refl, ap, ap₂, sym, subst, ◌∙◌, zero, suc, length-append, arith}
+use Rattle.std.proofs.Common.{◌≡◌, ◌≢◌, ℕ, ◌+◌, ◌<◌, ◌≤◌, List, [], ◌∷◌, ◌++◌, AllPairs, All, length, get_or, set, take, drop, map, remove, append_assoc, refl, ap, ap₂, sym, subst, ◌∙◌, zero, suc, length-append, replicate, arith}
 use Rattle.std.specs.List.{range_with_len}
-use Rattle.std.proofs.lemmas.List.{map-append, take-map, drop-map, map_more, get_or-map, get_or-take, get_or-set_same, get_or-set_other, length-map, length-take-le, length-set, take-append-drop, take-append-le, take_all, same_lists}
+use Rattle.std.proofs.lemmas.List.{map-append, take-map, drop-map, map_more, get_or-map, get_or-take, get_or-set_same, get_or-set_other, length-map, map-set, length-take-le, length-set, take-append-drop, take-append-le, take_all, same_lists}
 use Rattle.std.proofs.lemmas.List.Edits.{length-remove, get_or-remove_below, get_or-remove_above, remove-append_left}
 use Rattle.std.proofs.lemmas.List.FromFn.{get_or-range_with_len, length-range_with_len}
 use Rattle.std.proofs.lemmas.List.Quantifiers.{all_pairs_remove, all_pairs_push}
 use Rattle.std.proofs.lemmas.Option.{slice_get_read, get_or_from_slice_get}
 use native.Mathlib.Decide.{dec_lt}
 use Rattle.dpe_handles.specs.declared.row.Row.{Row}
-use Rattle.dpe_handles.specs.Rows.{serial, IsAscending, IsTable, rows_in, no_row, row_limit}
+use Rattle.dpe_handles.specs.Rows.{serial, IsAscending, IsTable, HasSerial, rows_in, serials_of, no_row, row_limit}
 
 -- the element at a place, whatever stands in for one past the end
 there : {X : Type 0} (xs : List X) (at : ℕ) (x d : X) → at < length xs → x ≡ get_or xs at x → get_or xs at d ≡ x
@@ -16,6 +16,36 @@ there xs at x d lt is = get_or_from_slice_get xs at x d (slice_get_read xs _ at 
 
 pub rows_count : (rows : List Row) (order : List ℕ) (live : ℕ) → live ≤ length order → length (rows_in rows (take live order)) ≡ live
 rows_count rows order live le = length-map (take live order) _ ∙ length-take-le live order le
+
+-- the serial of the row at a place, read from the list of the slots' serials
+pub serial_there : (rows : List Row) (order serials : List ℕ) (live at slot n : ℕ) → live ≤ length order → at < live → slot ≡ get_or order at slot → slot < length rows
+    → serials ≡ serials_of rows → n ≡ get_or serials slot n → HasSerial (rows_in rows (take live order)) at n
+serial_there rows order serials live at slot n le lt is within all here =
+    let f : ℕ → Row = λ s. get_or rows s no_row in
+    let g : Row → ℕ = λ r. serial r.handle in
+    let row = get_or rows slot no_row in
+    let few = length-take-le live order le in
+    let many = rows_count rows order live le in
+    let this : get_or (rows_in rows (take live order)) at row ≡ row =
+    get_or-map f (take live order) at slot row (omega arith) ∙ ap f (get_or-take live order at slot lt ∙ sym is)
+    in
+    let found = slice_get_read (rows_in rows (take live order)) _ at row refl (omega arith) (sym this) in
+    (row, found, sym (here ∙ ap (λ ns. get_or ns slot n) all ∙ get_or-map g rows slot no_row n within))
+
+-- a serial and its row are written into a slot
+pub serials_issued : (rows : List Row) (serials : List ℕ) (slot number : ℕ) (row : Row) → number ≡ serial row.handle → serials ≡ serials_of rows → set serials slot number ≡ serials_of (set rows slot row)
+serials_issued rows serials slot number row is all =
+    let g : Row → ℕ = λ r. serial r.handle in
+    ap₂ (λ ns n. set ns slot n) all is ∙ sym (map-set g rows slot row)
+
+-- the serials of rows of nothing
+none_serial : serial (replicate 16 0) ≡ 0
+unfolding serial
+none_serial = refl
+
+pub serials_made : (count : ℕ) → replicate count 0 ≡ serials_of (replicate count no_row)
+serials_made zero = refl
+serials_made (suc count) = ap₂ (λ n ns. n ∷ ns) (sym none_serial) (serials_made count)
 
 range_last : (a n j : ℕ) → a + n ≡ j → range_with_len a (suc n) ≡ range_with_len a n ++ j ∷ []
 range_last a zero j e = let i : a ≡ j = omega arith in ap (λ k. k ∷ []) i

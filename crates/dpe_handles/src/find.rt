@@ -1,7 +1,7 @@
 //! The search for a handle.
 ghost use Rattle.std.specs.Prelude.{◌≡◌, ℕ, ◌+◌, ◌^◌, ◌<◌, ◌≤◌, length, Some, None, IfSome, IfNone, slice_get, slice_index};
 ghost use Rattle.std.specs.Int.{w64, from_be_bytes};
-ghost use Rattle.dpe_handles.specs.Rows.{serial, HasHandle, HasNoHandle, FewSteps};
+ghost use Rattle.dpe_handles.specs.Rows.{serial, HasHandle, HasNoHandle, HasSerial, IsOnlyAt, FewSteps, FewLooks};
 
 use crate::row::Row;
 use crate::table::{Steps, Table};
@@ -16,15 +16,35 @@ pub(crate) fn serial_of(handle: &[u8; 16]) -> u64
 }
 
 impl Table {
-    // Looks at the row at this place, and counts that.
-    fn look(&self, at: usize, steps: &mut Steps) -> &Row
+    // Looks at the serial of the row at this place, and counts that.
+    fn look(&self, at: usize, steps: &mut Steps) -> u64
         requires place { at < length self.now }
         requires few { steps.old.taken < 4294967295 }
-        ensures row { slice_get self.now at ≡ Some result.now }
+        ensures serial { HasSerial self.now at result }
         ensures counted { steps.new.taken ≡ steps.old.taken + 1 }
     {
-        steps.taken += 1;
-        self.row(at)
+        steps.count();
+        self.serial(at)
+    }
+
+    // The place of the one row that can have this serial. At each look at least half of the other places fall away.
+    fn only_place(&self, serial: u64, steps: &mut Steps) -> usize
+        requires some { 0 < length self.now }
+        requires few { steps.old.taken ≤ 2 ^ 31 }
+        ensures place { result < length self.now }
+        ensures only { IsOnlyAt self.now serial result }
+        ensures few { FewLooks (length self.now) steps.old.taken steps.new.taken }
+    {
+        let mut at = 0;
+        let mut left = self.len();
+        while left > 1 {
+            let half = left / 2;
+            if self.look(at + half, steps) <= serial {
+                at += half;
+            }
+            left -= half;
+        }
+        at
     }
 
     /// The place of the row with these bytes, or `None` exactly where no row has them. Each row that is looked at is
@@ -35,26 +55,15 @@ impl Table {
         ensures absent { IfNone result (HasNoHandle self.now handle.now) }
         ensures few { FewSteps (length self.now) steps.old.taken steps.new.taken }
     {
-        let serial = serial_of(handle);
-        let mut low = 0;
-        let mut high = self.len();
-        while low < high {
-            let middle = low + (high - low) / 2;
-            let row = self.look(middle, steps);
-            let here = serial_of(&row.handle);
-            if here == serial {
-                return if row.handle == *handle {
-                    Some(middle)
-                } else {
-                    None
-                };
-            }
-            if here < serial {
-                low = middle + 1;
-            } else {
-                high = middle;
-            }
+        if self.len() == 0 {
+            return None;
         }
-        None
+        let at = self.only_place(serial_of(handle), steps);
+        steps.count();
+        if self.row(at).handle == *handle {
+            Some(at)
+        } else {
+            None
+        }
     }
 }

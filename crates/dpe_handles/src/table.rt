@@ -2,8 +2,9 @@
 ghost use Rattle.std.specs.Prelude.{◌≡◌, ℕ, ◌+◌, ◌<◌, ◌≤◌, [], ◌∷◌, ◌++◌, length, IfOk, All, Some, slice_get, remove};
 ghost use Rattle.std.specs.List.{range_with_len};
 ghost use Rattle.std.specs.Vec.{vec_capacity};
-ghost use Rattle.dpe_handles.specs.Rows.{serial, IsAscending, row_limit};
+ghost use Rattle.dpe_handles.specs.Rows.{serial, HasSerial, IsAscending, row_limit};
 
+use crate::find::serial_of;
 use crate::row::Row;
 use std::alloc::{AllocError, Global};
 use std::marker::Model;
@@ -24,6 +25,14 @@ impl Steps {
     {
         Steps { taken: 0 }
     }
+
+    // One row more.
+    pub(crate) fn count(&mut self)
+        requires { self.old.taken < 4294967295 }
+        ensures { self.new.taken ≡ self.old.taken + 1 }
+    {
+        self.taken += 1;
+    }
 }
 
 /// Rows in ascending order of their serials, at most 256. It has room for all of them from the start.
@@ -33,6 +42,8 @@ impl Steps {
 pub struct Table {
     // 256 slots, each with a live row or with what was left there.
     rows: Vec<Row>,
+    // The serial of the row in each slot, where a search looks.
+    serials: Vec<u64>,
     // The numbers of all slots: first those of the live rows, in order of their serials, then the free ones.
     order: Vec<u8>,
     live: usize,
@@ -40,15 +51,16 @@ pub struct Table {
 
 impl Model for Table {
     ghost use Rattle.dpe_handles.specs.declared.row.Row.{Row};
-    ghost use Rattle.dpe_handles.specs.Rows.{rows_in, IsTable, row_limit};
-    ghost use Rattle.std.specs.Prelude.{◌≤◌, List, take};
+    ghost use Rattle.dpe_handles.specs.Rows.{rows_in, serials_of, IsTable, row_limit};
+    ghost use Rattle.std.specs.Prelude.{◌≡◌, ◌≤◌, List, take};
     ghost use Rattle.std.specs.Vec.{vec_capacity};
 
     ghost Value = { List Row };
 
     ghost view = { λ t. rows_in t.rows.items (take t.live t.order.items) };
 
-    ghost invariant = { λ t. IsTable t.rows.items t.order.items t.live × (row_limit ≤ vec_capacity t.order) };
+    ghost invariant = { λ t. IsTable t.rows.items t.order.items t.live
+        × (t.serials.items ≡ serials_of t.rows.items) × (row_limit ≤ vec_capacity t.order) };
 }
 
 // What stands in a slot before its first row.
@@ -77,9 +89,11 @@ impl Table {
         ensures { IfOk result (λ t. t ≡ []) }
     {
         let rows = vec![in alloc; NO_ROW; MOST_ROWS]?;
+        let serials = vec![in alloc; 0; MOST_ROWS]?;
         let order = all_slots(alloc)?;
         Ok(Table {
             rows,
+            serials,
             order,
             live: 0,
         })
@@ -103,6 +117,15 @@ impl Table {
         &self.rows[slot as usize]
     }
 
+    /// The serial of the row at this place.
+    pub(crate) fn serial(&self, at: usize) -> u64
+        requires { at < length self.now }
+        ensures { HasSerial self.now at result }
+    {
+        let slot = self.order[at];
+        self.serials[slot as usize]
+    }
+
     /// Takes the row at this place out. Those behind it move down by one.
     pub fn spend(&mut self, at: usize) -> Row
         requires { at < length self.old }
@@ -124,6 +147,7 @@ impl Table {
         ensures { self.new ≡ self.old ++ row ∷ [] }
     {
         let slot = self.order[self.live];
+        self.serials[slot as usize] = serial_of(&row.handle);
         self.rows[slot as usize] = row;
         self.live += 1;
     }

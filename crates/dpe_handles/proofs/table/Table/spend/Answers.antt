@@ -12,10 +12,10 @@ invariant_of-self c =
     let same = ap length c.self.view_is in
     let lt = c.requires in
     let moved : c.push.new.self.items ≡ remove c.self.inside.order.items c.args.at ++ c.remove-slot.result ∷ [] = search rules in
-    let room = c.self.invariant.1 in
+    let room = c.self.invariant.2 in
     let kept = c.remove-slot.ensures.capacity in
     let kept_too = c.push.ensures.capacity in
-    (table_spent c.self.inside.rows.items c.self.inside.order.items c.self.inside.live t _ _ c.args.at c.remove-slot.result (omega arith) (omega arith) c.remove-slot.ensures.value moved, omega arith)
+    (table_spent c.self.inside.rows.items c.self.inside.order.items c.self.inside.live t _ _ c.args.at c.remove-slot.result (omega arith) (omega arith) c.remove-slot.ensures.value moved, c.self.invariant.1, omega arith)
 
 pub returns-clause-rest : goal.returns-clause-rest
 returns-clause-rest c =
