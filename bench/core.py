@@ -1,73 +1,127 @@
 #!/usr/bin/env python3
-"""Counts the instructions of commands inside the executor, by valgrind's callgrind.
+"""Counts the instructions of commands inside the executor, by valgrind's callgrind, and takes their times.
 
-Run it at the top of the repository after `rt run` in crates/core_bench. One command is the difference of 612 and 100
-of them, by 512: so each of 256 contexts has the command twice. Words behind the script's name are the commands to count.
+Run it at the top of the repository after `rt run` in crates/core_bench and crates/keys_bench. A command that can be done many
+times over is the difference of 612 and 100 of them, by 512: so each of 256 contexts has the command twice. One that destroys
+is done once. Words behind the script's name are the commands to count; `time` alone takes the times.
 """
 import re
-import subprocess
 import sys
-import tempfile
 
+from measuring import callgrind, least
+
+BENCH = "crates/core_bench/out/core_bench"
+KEYS = "crates/keys_bench/out/keys_bench"
 # The function of the program that only calls the executor.
 EXECUTE = "core_bench::bench::Bench::count"
 # The kit's functions, from which a command's keyed work is made.
 KIT = re.compile(r"<?(sha2|rand_chacha)::")
+# The commands with a keyed function, which keys_bench does by the same name. What a command takes beyond it is its own.
+KEYED = ["sign", "seal", "unseal", "derive"]
+# The commands that end what they are done on.
+ONCE = ["destroy", "recursive", "family"]
 FEW, MANY = 100, 612
 # Around a session of 0 and a byte string, a code of 0.
 ACCEPTED = re.compile("8200(4.|5[0-7]|58..|59....)8200")
 
-
-def spent(live, depth, kind, count):
-    """The instructions of each function inside the executor in one run, and what is printed."""
-    with tempfile.NamedTemporaryFile() as out:
-        command = ["valgrind", "--tool=callgrind", f"--callgrind-out-file={out.name}"]
-        command += ["--compress-strings=no", "--compress-pos=no", f"--toggle-collect={EXECUTE}*"]
-        command += ["crates/core_bench/out/core_bench", str(live), str(depth), kind, str(count)]
-        run = subprocess.run(command, check=True, capture_output=True, text=True)
-        lines = open(out.name).read().splitlines()
-    costs, function, inclusive = {}, None, False
-    for line in lines:
-        if line.startswith("fn="):
-            function = line[3:]
-        elif line.startswith("calls="):
-            inclusive = True
-        elif cost := re.match(r"(?:0x)?[0-9a-f]+ (\d+)$", line):
-            if not inclusive:
-                costs[function] = costs.get(function, 0) + int(cost.group(1))
-            inclusive = False
-    return costs, run.stdout.strip()
+# How often a command is done for its time, and in how many turns.
+TIMES = 20_000
+ROUNDS = 15
 
 
-def one_of(live, depth, kind):
-    """The instructions of each function in one command."""
-    few, _ = spent(live, depth, kind, FEW)
-    many, printed = spent(live, depth, kind, MANY)
-    if not ACCEPTED.match(printed):
-        sys.exit(f"{kind}: {printed}")
-    return {name: (cost - few.get(name, 0)) / (MANY - FEW) for name, cost in many.items()}
+class Spent:
+    """The instructions of a run inside the executor."""
+
+    def __init__(self, live, depth, kind, count):
+        options = ["--compress-strings=no", "--compress-pos=no", f"--toggle-collect={EXECUTE}*"]
+        _, printed, lines = callgrind([BENCH, str(live), str(depth), kind, str(count)], options)
+        self.printed = printed.decode().strip()
+        self.costs = {}
+        self.read(lines)
+
+    def read(self, lines):
+        function, called = None, False
+        for line in lines:
+            if line.startswith("fn="):
+                function = line[3:]
+            elif line.startswith("calls="):
+                called = True
+            elif cost := re.match(r"(?:0x)?[0-9a-f]+ (\d+)$", line):
+                if not called:
+                    self.costs[function] = self.costs.get(function, 0) + int(cost.group(1))
+                called = False
+
+
+class Command:
+    """What one command spends."""
+
+    def __init__(self, live, depth, kind):
+        few, many = (0, 1) if kind in ONCE else (FEW, MANY)
+        before, after = Spent(live, depth, kind, few), Spent(live, depth, kind, many)
+        if not ACCEPTED.match(after.printed):
+            sys.exit(f"{kind}: {after.printed}")
+        turns = many - few
+        self.functions = {name: (cost - before.costs.get(name, 0)) / turns for name, cost in after.costs.items()}
+        self.all = sum(self.functions.values())
+        self.outside = sum(cost for name, cost in self.functions.items() if not KIT.match(name))
+
+
+def keyed(kind):
+    """The instructions of the keyed function alone."""
+    if kind not in KEYED:
+        return 0
+    few, many = [callgrind([KEYS, "ours", kind, str(count)])[0] for count in [10, 110]]
+    return (many - few) / 100
 
 
 def beside(kind, most_live, most_depth):
     """One command with few and with many contexts, and with a shallow and a deep one."""
-    alone = one_of(1, 0, kind)
-    deep = one_of(1, most_depth, kind)
-    crowd = one_of(most_live, 1, kind)
-    base = sum(alone.values())
-    print(f"{kind}: {base:.0f}", end="")
-    print(f", at {most_live} contexts {sum(crowd.values()):.0f}, {sum(crowd.values()) / base:.3f}", end="")
-    print(f", at depth {most_depth} {sum(deep.values()):.0f}, {sum(deep.values()) / base:.3f}")
-    outside = {name: cost for name, cost in alone.items() if not KIT.match(name)}
-    print(f"  outside the kit's functions {sum(outside.values()):.0f}, {sum(outside.values()) / base:.3f}")
-    for name, cost in sorted(outside.items(), key=lambda entry: -entry[1])[:12]:
-        if cost >= 1:
-            print(f"    {cost:.0f} {name}, at {most_live} contexts {crowd.get(name, 0):.0f}")
+    alone, deep, crowd = Command(1, 0, kind), Command(1, most_depth, kind), Command(most_live, 1, kind)
+    print(f"{kind}: {alone.all:.0f}", end="")
+    print(f", at {most_live} contexts {crowd.all:.0f}, {crowd.all / alone.all:.3f}", end="")
+    print(f", at depth {most_depth} {deep.all:.0f}, {deep.all / alone.all:.3f}")
+    print(f"  outside the kit's functions {alone.outside:.0f}, {alone.outside / alone.all:.3f}; its own {alone.all - keyed(kind):.0f}")
+    for name, cost in sorted(alone.functions.items(), key=lambda entry: -entry[1]):
+        if cost >= 20 and not KIT.match(name):
+            print(f"    {cost:.0f} {name}, at {most_live} contexts {crowd.functions.get(name, 0):.0f}")
+
+
+def family():
+    """What a recursive DestroyContext of a root takes for each row, at both depths of the contexts below it."""
+    for depth in [1, 16]:
+        few, many = Command(128, depth, "family"), Command(256, depth, "family")
+        print(f"family at depth {depth}: {many.all:.0f} at 256 contexts, {(many.all - few.all) / 128:.0f} a row")
+    few, many = Command(128, 1, "recursive"), Command(256, 1, "recursive")
+    print(f"recursive: {many.all:.0f} at 256 contexts, {(many.all - few.all) / 128:.0f} a row that is spared")
+
+
+def times():
+    """The time of commands and of their keyed functions, in blocks of SHA-512 and at 0.3 microseconds a block."""
+    turns = str(TIMES)
+    runs = {"block": ([KEYS, "straight", "hmac", str(10 * TIMES)],), "nothing": ([KEYS, "straight", "hmac", "0"],)}
+    for kind in ["rotate", *KEYED]:
+        runs[kind] = ([BENCH, "1", "0", kind, turns],)
+    for kind in KEYED:
+        runs[f"keyed {kind}"] = ([KEYS, "ours", kind, turns],)
+    best = least(runs, ROUNDS)
+    start = best["nothing"]
+    # An HMAC of a short message is four blocks.
+    block = (best["block"] - start) / (40 * TIMES)
+    print(f"a block takes {1e6 * block:.3f} microseconds")
+    for kind in ["rotate", *KEYED]:
+        whole = (best[kind] - start) / TIMES
+        own = whole - (best[f"keyed {kind}"] - start) / TIMES if kind in KEYED else whole
+        print(f"{kind}: {1e6 * whole:.2f} microseconds, its own {own / block:.2f} blocks, at 0.3 a block {0.3 * own / block:.2f}")
 
 
 def main():
-    for kind in sys.argv[1:] or ["rotate", "sign", "seal", "unseal", "derive"]:
+    for kind in sys.argv[1:] or ["rotate", "sign", "seal", "unseal", "derive", "destroy", "recursive", "family", "time"]:
+        if kind == "family":
+            family()
+        elif kind == "time":
+            times()
         # A child is derived in each turn, so that one context less lives, and its parent is no deeper than 15.
-        if kind == "derive":
+        elif kind == "derive":
             beside(kind, 255, 15)
         else:
             beside(kind, 256, 16)

@@ -5,18 +5,13 @@ and those of reading a Seal of 2,048 bytes beside those of sealing its bytes.
 Run it at the top of the repository after `rt run` in crates/keys_bench. One operation is the difference of 110
 and 10 of them, by a hundred.
 """
-import re
-import subprocess
-import tempfile
+from measuring import callgrind
 
 
 def instructions(side, operation, count):
     """What the program spends on so many operations, and what it prints."""
-    with tempfile.NamedTemporaryFile() as out:
-        command = ["valgrind", "--tool=callgrind", f"--callgrind-out-file={out.name}"]
-        command += ["crates/keys_bench/out/keys_bench", side, operation, str(count)]
-        run = subprocess.run(command, check=True, capture_output=True, text=True)
-    return int(re.search(r"Collected : (\d+)", run.stderr).group(1)), run.stdout
+    spent, printed, _ = callgrind(["crates/keys_bench/out/keys_bench", side, operation, str(count)])
+    return spent, printed
 
 
 def one_of(side, operation):

@@ -10,11 +10,11 @@ use std::alloc::{AllocError, Global};
 
 const MESSAGE: [u8; 32] = [0x22; 32];
 
-const CODE: [u8; 64] = [0x11; 64];
+static CODE: [u8; 64] = [0x11; 64];
 
-const CONFIG: [u8; 64] = [0x21; 64];
+static CONFIG: [u8; 64] = [0x21; 64];
 
-const AUTHORITY: [u8; 64] = [0x31; 64];
+static AUTHORITY: [u8; 64] = [0x31; 64];
 
 /// The bytes of a box of 32 bytes, which end the reply to a Seal.
 const BOX_LENGTH: usize = 117;
@@ -26,25 +26,70 @@ pub struct Bench {
     folds: Count,
 }
 
+// A derivation by one layer.
+fn derivation<'a>(handle: &'a [u8; 16], retain: bool) -> Command<'a>
+    ensures { IsCommandWritable result }
+{
+    Command::Derive(Derive {
+        handle,
+        code: &CODE,
+        config: Config::Inline(&CONFIG),
+        authority: &AUTHORITY,
+        mode: 1,
+        hidden: None,
+        retain,
+        may_derive: true,
+        locality: None,
+    })
+}
+
 impl Bench {
-    /// A root with children by one layer, all of which live, and then so many layers in place of the root.
-    // no clause: it is measured, and a stored run shows its reply.
-    pub fn make(alloc: Global, live: u32, depth: u32) -> Result<Bench, AllocError> {
+    // A root alone.
+    fn root(alloc: Global) -> Result<Bench, AllocError> {
         let mut bench = Bench {
             core: Core::make(alloc, &[0; 32], 1)?,
             folds: Count::new(),
         };
-        let mut reply = [0; 4096];
-        bench.execute(&Command::Initialize, &mut reply);
+        bench.prepare(&Command::Initialize);
+        Ok(bench)
+    }
+
+    /// A root with children by one layer, all of which live, and then so many layers in place of the root.
+    // no clause: it is measured, and a stored run shows its reply.
+    pub fn make(alloc: Global, live: u32, depth: u32) -> Result<Bench, AllocError> {
+        let mut bench = Bench::root(alloc)?;
         for _ in 1..live {
             let root = bench.newest();
-            bench.derive(&root, true, &mut reply);
+            bench.prepare(&derivation(&root, true));
         }
         for _ in 0..depth {
             let parent = bench.newest();
-            bench.derive(&parent, false, &mut reply);
+            bench.prepare(&derivation(&parent, false));
         }
         Ok(bench)
+    }
+
+    /// A root with contexts below it, each as deep as told by layers of its own. The root's handle is the newest.
+    // no clause: it is measured, and a stored run shows its reply.
+    pub fn make_family(alloc: Global, live: u32, depth: u32) -> Result<Bench, AllocError> {
+        let mut bench = Bench::root(alloc)?;
+        for _ in 1..live {
+            bench.branch(depth);
+        }
+        Ok(bench)
+    }
+
+    // Adds a context below the newest one, which is then the newest again.
+    fn branch(&mut self, depth: u32) {
+        let above = self.newest();
+        self.prepare(&derivation(&above, true));
+        let above = self.newest();
+        let mut below = self.handle(self.core.live().saturating_sub(2));
+        for _ in 1..depth {
+            self.prepare(&derivation(&below, false));
+            below = self.newest();
+        }
+        self.prepare(&Command::Rotate(&above));
     }
 
     // The handle of the context at a place in the order of serials; zeros where there is none.
@@ -59,6 +104,17 @@ impl Bench {
     // The handle made last.
     fn newest(&self) -> [u8; 16] {
         self.handle(self.core.live().saturating_sub(1))
+    }
+
+    // Executes a command that isn't counted.
+    fn prepare(&mut self, command: &Command<'_>)
+        requires { IsCommandWritable command.now }
+    {
+        let mut payload = [0; 4096];
+        let mut reply = [0; 4096];
+        let len = write_command(command, &mut payload);
+        self.core
+            .execute(0, &[0; 32], &payload[..len], &mut reply, &mut self.folds);
     }
 
     // The length of the reply.
@@ -119,34 +175,23 @@ impl Bench {
         self.execute(&Command::Unseal(unseal), reply)
     }
 
-    fn derive(&mut self, handle: &[u8; 16], retain: bool, reply: &mut [u8; 4096]) -> usize
-        ensures { result ≤ 4096 }
-    {
-        let derive = Derive {
-            handle,
-            code: &CODE,
-            config: Config::Inline(&CONFIG),
-            authority: &AUTHORITY,
-            mode: 1,
-            hidden: None,
-            retain,
-            may_derive: true,
-            locality: None,
-        };
-        self.execute(&Command::Derive(derive), reply)
-    }
-
-    // Derives from a context that is retained, and destroys the child.
+    // Derives from a context that is retained, and destroys the child, which isn't counted.
     fn come_and_go(&mut self, handle: &[u8; 16], reply: &mut [u8; 4096]) -> usize
         ensures { result ≤ 4096 }
     {
-        self.derive(handle, true, reply);
+        let len = self.execute(&derivation(handle, true), reply);
         let child = self.handle(self.core.live().saturating_sub(2));
-        let destroy = Command::Destroy {
+        self.prepare(&Command::Destroy {
             handle: &child,
             recursive: false,
-        };
-        self.execute(&destroy, reply)
+        });
+        len
+    }
+
+    fn destroy(&mut self, handle: &[u8; 16], recursive: bool, reply: &mut [u8; 4096]) -> usize
+        ensures { result ≤ 4096 }
+    {
+        self.execute(&Command::Destroy { handle, recursive }, reply)
     }
 
     // A box that the oldest context seals.
@@ -166,7 +211,11 @@ impl Bench {
     pub fn repeated(&mut self, kind: &str, count: u32, reply: &mut [u8; 4096]) -> Option<usize>
         ensures { IfSome result (λ len. len ≤ 4096) }
     {
-        let sealed = self.sealed();
+        let sealed = if kind == "unseal" {
+            self.sealed()
+        } else {
+            [0; 117]
+        };
         let mut len = 0;
         for _ in 0..count {
             let oldest = self.handle(0);
@@ -195,6 +244,22 @@ impl Bench {
             Some(self.execute(&Command::Rotate(handle), reply))
         } else if kind == "derive" {
             Some(self.come_and_go(handle, reply))
+        } else {
+            self.destroyed(kind, handle, reply)
+        }
+    }
+
+    // One context destroyed, or with it all those below it.
+    fn destroyed(&mut self, kind: &str, handle: &[u8; 16], reply: &mut [u8; 4096]) -> Option<usize>
+        ensures { IfSome result (λ len. len ≤ 4096) }
+    {
+        if kind == "destroy" {
+            Some(self.destroy(handle, false, reply))
+        } else if kind == "recursive" {
+            Some(self.destroy(handle, true, reply))
+        } else if kind == "family" {
+            let root = self.newest();
+            Some(self.destroy(&root, true, reply))
         } else {
             None
         }

@@ -1,6 +1,8 @@
 //! Has one executor execute one command many times over, and prints the last reply in hexadecimal digits. The words are
-//! how many contexts live (1 to 256), the depth of the deepest (0 to 16), `sign`, `seal`, `unseal`, `rotate` or `derive`,
-//! and how many times. With `derive` at most 255 contexts live, since each child lives until it is destroyed.
+//! how many contexts live (1 to 256), the depth of the deepest (0 to 16), the command, and how many times. The commands
+//! are `sign`, `seal`, `unseal`, `rotate`, `derive`, `destroy`, `recursive` (a DestroyContext of a context with nothing
+//! below it, and of all below it) and `family` (the same of a root, with all others below it at the depth). With `derive`
+//! at most 255 contexts live, since each child lives until it is destroyed; the others that destroy do so once.
 #![tactic(auto)]
 
 mod bench;
@@ -27,7 +29,11 @@ fn main(rt: HostRuntime) -> io::Result<ExitCode> {
         return Ok(ExitCode::from(2));
     };
     let mut reply = [0; 4096];
-    let mut bench = Bench::make(rt.alloc(), live, depth)?;
+    let mut bench = if kind.as_str() == "family" {
+        Bench::make_family(rt.alloc(), live, depth)?
+    } else {
+        Bench::make(rt.alloc(), live, depth)?
+    };
     let Some(len) = bench.repeated(kind.as_str(), count, &mut reply) else {
         return Ok(ExitCode::from(2));
     };

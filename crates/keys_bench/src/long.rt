@@ -1,11 +1,9 @@
 //! What a Seal of 2,048 bytes costs: reading its payload, and sealing its bytes.
-use crate::inputs::{KEY, SALT};
+use crate::inputs::{KEY, LONG, SALT};
 use dpe_box::{Policy, seal as seal_box};
 use dpe_messages::{Command, Seal, read_payload, write_command};
 
 const HANDLE: [u8; 16] = [0x88; 16];
-
-const PLAIN: [u8; 2048] = [0x99; 2048];
 
 const EVERYBODY: Policy = Policy {
     localities: 255,
@@ -31,7 +29,7 @@ pub fn read(count: u32) -> [u8; 8] {
             retain: true,
             localities: 255,
             modes: 15,
-            plain: &PLAIN,
+            plain: &LONG,
         }),
         &mut payload,
     );
@@ -51,7 +49,7 @@ pub fn read(count: u32) -> [u8; 8] {
 pub fn seal(count: u32) -> [u8; 8] {
     let mut room = [0; 4096];
     for _ in 0..count {
-        seal_box(&KEY, b"", &EVERYBODY, &SALT, &PLAIN, &mut room);
+        seal_box(&KEY, b"", &EVERYBODY, &SALT, &LONG, &mut room);
     }
     let mut last = [0; 8];
     last.copy_from_slice(&room[2125..2133]);

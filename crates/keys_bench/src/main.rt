@@ -1,6 +1,7 @@
 //! Does one keyed operation many times over, by this project's functions or by plain code over the kit's. The words are `ours` or
 //! `straight`, `hmac`, `sign`, `derive` or `seal`, and how many times. What is printed is the same for `ours` and `straight`.
-//! The words `long`, `read` or `seal`, and how many times, read the payload of a Seal of 2,048 bytes, or seal these bytes.
+//! The words `long`, `read` or `seal`, and how many times, read the payload of a Seal of 2,048 bytes, or seal these bytes; the words
+//! `straight`, `long` and how many times seal them by plain code, and `ours`, `unseal` and how many times open a box of 32 bytes.
 #![tactic(auto)]
 
 mod inputs;

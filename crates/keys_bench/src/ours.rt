@@ -1,6 +1,6 @@
 //! The operations by this project's functions.
 use crate::inputs::{AUTHORITY, CODE, CONFIG, HIDDEN, KEY, MESSAGE, MODE, SALT};
-use dpe_box::{Policy, seal as seal_box};
+use dpe_box::{Policy, seal as seal_box, unseal as unseal_box};
 use dpe_hmac::hmac_of;
 use dpe_inputs::{Cdis, Count, Input, Unsalted, next, signature_with};
 
@@ -75,6 +75,20 @@ pub fn seal(count: u32) -> [u8; 8] {
     last
 }
 
+/// So many openings of one box. The end of the text.
+// no clause: it is measured.
+pub fn unseal(count: u32) -> [u8; 8] {
+    let mut room = [0; 4096];
+    let len = seal_box(&KEY, b"", &EVERYBODY, &SALT, &MESSAGE, &mut room);
+    let mut text = [0; 2048];
+    for _ in 0..count {
+        let _ = unseal_box(&KEY, b"", &room[..len], 0, 1, &mut text);
+    }
+    let mut last = [0; 8];
+    last.copy_from_slice(&text[24..32]);
+    last
+}
+
 /// An operation by its name.
 // no clause: it is measured, and tested beside the other side.
 pub fn repeated(operation: &str, count: u32) -> Option<[u8; 8]> {
@@ -86,6 +100,8 @@ pub fn repeated(operation: &str, count: u32) -> Option<[u8; 8]> {
         Some(derive(count))
     } else if operation == "seal" {
         Some(seal(count))
+    } else if operation == "unseal" {
+        Some(unseal(count))
     } else {
         None
     }

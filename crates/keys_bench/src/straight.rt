@@ -1,7 +1,7 @@
 //! The operations written straight over the kit's SHA-512 and ChaCha20.
-ghost use Rattle.std.specs.Prelude.{◌≤◌, length};
+ghost use Rattle.std.specs.Prelude.{◌≡◌, ◌≤◌, length};
 
-use crate::inputs::{AUTHORITY, CODE, CONFIG, HIDDEN, KEY, MESSAGE, MODE, SALT};
+use crate::inputs::{AUTHORITY, CODE, CONFIG, HIDDEN, KEY, LONG, MESSAGE, MODE, SALT};
 use rand_chacha::ChaCha20Rng;
 use rand_core::{Rng, SeedableRng};
 use sha2::{Digest, Sha512};
@@ -132,25 +132,28 @@ fn tag_key(one: &[u8; 64], two: &[u8; 64]) -> [u8; 64] {
     key
 }
 
-// The message under the key stream of this key.
-fn ciphered(key: &[u8; 32]) -> [u8; 32] {
-    let mut text = [0; 32];
-    ChaCha20Rng::from_seed(*key).fill_bytes(&mut text);
-    for i in 0..32 {
-        text[i] ^= MESSAGE[i];
+// A text under the key stream of this key.
+fn cipher(key: &[u8; 32], plain: &[u8], text: &mut [u8])
+    requires { length plain.now ≡ length text.old }
+{
+    ChaCha20Rng::from_seed(*key).fill_bytes(text);
+    for i in 0..text.len() {
+        text[i] ^= plain[i];
     }
-    text
 }
 
-fn seal_box(room: &mut [u8; 4096]) {
+fn seal_box(plain: &[u8], room: &mut [u8; 4096])
+    requires { length plain.now ≤ 2048 }
+{
     let (one, two) = box_keys();
-    let text = ciphered(&first_half(&one));
+    let end = 21 + plain.len();
     room[0] = 1;
     room[1..17].copy_from_slice(&SALT);
-    room[17..21].copy_from_slice(&[255, 15, 0, 32]);
-    room[21..53].copy_from_slice(&text);
-    let tag = code(&tag_key(&one, &two), &room[..53]);
-    room[53..117].copy_from_slice(&tag);
+    room[17..19].copy_from_slice(&[255, 15]);
+    room[19..21].copy_from_slice(&(plain.len() as u16).to_be_bytes());
+    cipher(&first_half(&one), plain, &mut room[21..end]);
+    let tag = code(&tag_key(&one, &two), &room[..end]);
+    room[end..end + 64].copy_from_slice(&tag);
 }
 
 /// So many boxes.
@@ -158,10 +161,22 @@ fn seal_box(room: &mut [u8; 4096]) {
 pub fn seal(count: u32) -> [u8; 8] {
     let mut room = [0; 4096];
     for _ in 0..count {
-        seal_box(&mut room);
+        seal_box(&MESSAGE, &mut room);
     }
     let mut last = [0; 8];
     last.copy_from_slice(&room[109..117]);
+    last
+}
+
+/// So many boxes of 2,048 bytes.
+// no clause: it is measured, and tested beside the other side.
+pub fn long(count: u32) -> [u8; 8] {
+    let mut room = [0; 4096];
+    for _ in 0..count {
+        seal_box(&LONG, &mut room);
+    }
+    let mut last = [0; 8];
+    last.copy_from_slice(&room[2125..2133]);
     last
 }
 
@@ -176,6 +191,8 @@ pub fn repeated(operation: &str, count: u32) -> Option<[u8; 8]> {
         Some(derive(count))
     } else if operation == "seal" {
         Some(seal(count))
+    } else if operation == "long" {
+        Some(long(count))
     } else {
         None
     }

@@ -8,6 +8,9 @@ fn both_sides_compute_the_same(rt: HostRuntime) {
             straight::repeated(operation, 2)
         );
     }
+    assert_eq!(rt; long::repeated("seal", 2), straight::repeated("long", 2));
+    // the message that was sealed
+    assert_eq!(rt; ours::repeated("unseal", 2), Some([0x22; 8]));
 }
 
 #[test]
