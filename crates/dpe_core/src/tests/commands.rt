@@ -333,18 +333,29 @@ static FULL_AND_DEEPEST: [(&str, u8, Ask, &str); 1] = [(
 )];
 
 #[test]
-fn limits_are_kept(rt: HostRuntime) -> Result<(), Fail> {
-    // sixteen derivations in a row
+fn a_context_has_at_most_sixteen_layers(rt: HostRuntime) -> Result<(), Fail> {
     let mut both = derived(rt.alloc(), false, 16)?;
     assert_eq!(rt; first_wrong(rt.alloc(), &mut both, &DEEPEST)?, None);
     assert_eq!(rt; both.folds.folds(), 16);
     let mut both = derived(rt.alloc(), false, 15)?;
     assert_eq!(rt; first_wrong(rt.alloc(), &mut both, &DEEPEST_LAST)?, None);
+    Ok(())
+}
+
+#[test]
+fn at_most_256_contexts_live(rt: HostRuntime) -> Result<(), Fail> {
     // 255 beside the root
     let mut both = derived(rt.alloc(), true, 255)?;
     assert_eq!(rt; first_wrong(rt.alloc(), &mut both, &FULL)?, None);
     assert_eq!(rt; both.core.live(), 256);
     assert_eq!(rt; both.folds.folds(), 256);
+    Ok(())
+}
+
+#[test]
+fn the_depth_is_judged_before_the_number(rt: HostRuntime) -> Result<(), Fail> {
+    let mut both = derived(rt.alloc(), true, 255)?;
+    assert_eq!(rt; first_wrong(rt.alloc(), &mut both, &FULL)?, None);
     // and fifteen more in a row
     for context in 512..527 {
         let _reply = reply_to(rt.alloc(), &mut both, 0, Ask::InPlace(context))?;
