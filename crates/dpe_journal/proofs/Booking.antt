@@ -1,5 +1,6 @@
 -- What a step of a book comes to.
-use Rattle.std.proofs.Common.{◌≡◌, ℕ, ◌^◌, ◌<◌, ◌≤◌, List, [], ◌∷◌, ◌++◌, refl, ap, sym, ◌∙◌, length, take, subst}
+use Rattle.std.proofs.Common.{◌≡◌, ℕ, ◌^◌, ◌<◌, ◌≤◌, List, [], ◌∷◌, ◌++◌, refl, ap, sym, ◌∙◌, length, take, subst, arith}
+use Rattle.std.proofs.lemmas.List.{take_all}
 use Rattle.dpe_cbor.specs.Decoding.{AreBytes}
 use Rattle.dpe_messages.specs.Replies.{payload_limit, reply_payload}
 use Rattle.dpe_model.specs.History.{Entry, IsEntry, Legal, state_after}
@@ -7,65 +8,69 @@ use Rattle.dpe_model.specs.State.{State, Machine, Valid, start}
 use Rattle.dpe_model.specs.Step.{Outcome, step, IsReply}
 use Rattle.dpe_model.proofs.Runs.{legal_append, legal_one, after_append}
 use Rattle.dpe_model.proofs.ValidStep.{valid_all, valid_start}
-use Rattle.dpe_journal.specs.BookViews.{BookView, state_in, next_reply, with_entry}
+use Rattle.dpe_journal.specs.BookViews.{BookView, state_in, next_entry, outcome_of, stepped, answer_to, answered}
 use Rattle.dpe_journal.specs.Entries.{Sent, entry_from}
 
 -- what is stored of a call is an entry, as what was read of it is
-pub entry_in_form : (caller : ℕ) (sent : Sent) (random payload reply : List ℕ) → caller < 2 ^ 32 → sent.connection < 2 ^ 32
+pub entry_in_form : (caller : ℕ) (sent : Sent) (random payload stored reply : List ℕ) → caller < 2 ^ 32 → sent.connection < 2 ^ 32
     → sent.index < 2 ^ 32 → sent.locality ≤ 7 → length sent.random ≡ 32 → random ≡ sent.random → AreBytes random
-    → length sent.payload ≤ payload_limit → payload ≡ sent.payload → AreBytes payload → length reply ≤ payload_limit → AreBytes reply
+    → length sent.payload ≤ payload_limit → payload ≡ sent.payload → AreBytes payload → stored ≡ reply → length stored ≤ payload_limit
+    → AreBytes stored
     → IsEntry (entry_from caller sent reply)
-entry_in_form caller sent random payload reply few connection index near long r rs short p ps fits bytes = record {
+entry_in_form caller sent random payload stored reply few connection index near long r rs short p ps is fits bytes = record {
   caller = few;
   connection = connection;
   index = index;
   locality = near;
   random = (long, subst AreBytes r rs);
   payload = (short, subst AreBytes p ps);
-  reply = (fits, bytes);
+  reply = subst (λ (b : List ℕ). (length b ≤ payload_limit) × AreBytes b) is (fits, bytes);
 }
 
 pub valid_book : (book : BookView) → book.first < 2 ^ 64 → Legal book.seed book.first book.history → Valid (state_in book)
 valid_book book serial legal = valid_all book.seed (start book.first) book.history legal (valid_start book.first serial)
 
--- where the executor stood where the book is, what it did with what was sent is the step
-abbrev at_machine : Machine → ℕ → List ℕ → List ℕ → Outcome
-at_machine m locality random payload = step m.seed m.state locality random payload
+-- what was read of what is sent makes the same step
+same_step : (core : Machine) (sent : Sent) (locality : ℕ) (random payload : List ℕ) → locality ≡ sent.locality → random ≡ sent.random
+    → payload ≡ sent.payload → step core.seed core.state locality random payload ≡ outcome_of core sent
+same_step core sent locality random payload l r p =
+    ap (λ x. step core.seed core.state x random payload) l ∙ ap (λ x. step core.seed core.state sent.locality x payload) r
+    ∙ ap (λ x. step core.seed core.state sent.locality sent.random x) p
 
-same_step : (core machine : Machine) (locality near : ℕ) (random drawn payload sent : List ℕ) → core ≡ machine → locality ≡ near → random ≡ drawn → payload ≡ sent
-    → at_machine core locality random payload ≡ at_machine machine near drawn sent
-same_step core machine locality near random drawn payload sent m l r p =
-    ap (λ x. at_machine x locality random payload) m ∙ ap (λ x. at_machine machine x random payload) l
-    ∙ ap (λ x. at_machine machine near x payload) r ∙ ap (λ x. at_machine machine near drawn x) p
+-- the reply stands in the first bytes of the room
+pub given_reply : (core : Machine) (sent : Sent) (locality size : ℕ) (random payload out : List ℕ) → locality ≡ sent.locality → random ≡ sent.random
+    → payload ≡ sent.payload → length out ≡ payload_limit → IsReply out size (step core.seed core.state locality random payload)
+    → (size ≤ length (take payload_limit out)) × (take size (take payload_limit out) ≡ answer_to core sent)
+given_reply core sent locality size random payload out l r p n reply =
+    let whole : out ≡ take payload_limit out = sym (take_all payload_limit out (omega (arith, n))) in
+    subst (λ (t : List ℕ). (size ≤ length t) × (take size t ≡ answer_to core sent)) whole
+    (reply.0, reply.1 ∙ ap (λ (o : Outcome). reply_payload o.reply) (same_step core sent locality random payload l r p))
+
+pub machine_there : (core now : Machine) (sent : Sent) (locality : ℕ) (random payload : List ℕ) → locality ≡ sent.locality → random ≡ sent.random
+    → payload ≡ sent.payload → now ≡ record core { state = (step core.seed core.state locality random payload).state } → now ≡ stepped core sent
+machine_there core now sent locality random payload l r p is =
+    is ∙ ap (λ (o : Outcome). record core { state = o.state }) (same_step core sent locality random payload l r p)
 
 abbrev pub machine_in : BookView → Machine
 machine_in book = record { seed = book.seed; state = state_in book }
 
--- the history with the answer is legal, and the executor stands behind it
+-- the history with the entry is legal, and the executor stands behind it
 pub record Stepped (book : BookView) (now : Machine) (e : Entry) : Type 0 where
   pub legal : Legal book.seed book.first (book.history ++ e ∷ [])
   pub core : now ≡ record { seed = book.seed; state = state_after book.seed book.first (book.history ++ e ∷ []) }
 
-right_step : (book : BookView) (core now : Machine) (caller : ℕ) (sent : Sent) (outcome : Outcome) → Legal book.seed book.first book.history
-    → core ≡ machine_in book → outcome ≡ step book.seed (state_in book) sent.locality sent.random sent.payload
-    → IsEntry (entry_from caller sent (next_reply book sent)) → now ≡ record { seed = core.seed; state = outcome.state }
-    → Stepped book now (entry_from caller sent (next_reply book sent))
-right_step book core now caller sent outcome legal stands same is becomes = record {
+stepped_there : (book : BookView) (now : Machine) (caller : ℕ) (sent : Sent) → Legal book.seed book.first book.history
+    → IsEntry (next_entry book caller sent) → now ≡ stepped (machine_in book) sent → Stepped book now (next_entry book caller sent)
+stepped_there book now caller sent legal is becomes = record {
   legal = legal_append book.seed (start book.first) book.history _ legal (legal_one book.seed _ _ is refl);
-  core = becomes ∙ ap (λ (m : Machine). record { seed = m.seed; state = outcome.state }) stands
-      ∙ ap (λ (o : Outcome). record { seed = book.seed; state = o.state }) same
+  core = becomes
       ∙ ap (λ (S : State). record { seed = book.seed; state = S })
-      (sym (after_append book.seed (start book.first) book.history (entry_from caller sent (next_reply book sent) ∷ [])));
+      (sym (after_append book.seed (start book.first) book.history (next_entry book caller sent ∷ [])));
 }
 
-pub stepped_book : (book : BookView) (core now : Machine) (caller locality size : ℕ) (sent : Sent) (random payload out answer : List ℕ)
-    → Legal book.seed book.first book.history → core ≡ machine_in book → locality ≡ sent.locality → random ≡ sent.random → payload ≡ sent.payload
-    → IsReply out size (at_machine core locality random payload)
-    → now ≡ record { seed = core.seed; state = (at_machine core locality random payload).state }
-    → answer ≡ take size out → IsEntry (entry_from caller sent answer) → Stepped book now (entry_from caller sent answer)
-stepped_book book core now caller locality size sent random payload out answer legal stands l r p reply becomes front is =
-    let same = same_step core (machine_in book) locality sent.locality random sent.random payload sent.payload stands l r p in
-    let right : answer ≡ next_reply book sent = front ∙ (reply.1 ∙ ap (λ (o : Outcome). reply_payload o.reply) same) in
-    subst (λ x. Stepped book now (entry_from caller sent x)) (sym right)
-    (right_step book core now caller sent (at_machine core locality random payload) legal stands same
-    (subst (λ x. IsEntry (entry_from caller sent x)) right is) becomes)
+pub stepped_book : (book : BookView) (core now : Machine) (caller : ℕ) (sent : Sent) → Legal book.seed book.first book.history
+    → core ≡ machine_in book → IsEntry (answered core caller sent) → now ≡ stepped core sent
+    → Stepped book now (answered core caller sent)
+stepped_book book core now caller sent legal stands is becomes =
+    let there : (m : Machine) → Type 0 = λ m. IsEntry (answered m caller sent) → now ≡ stepped m sent → Stepped book now (answered m caller sent) in
+    subst there (sym stands) (stepped_there book now caller sent legal) is becomes

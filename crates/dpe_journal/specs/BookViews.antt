@@ -2,8 +2,8 @@
 use Rattle.std.specs.Prelude.{ℕ, List, [], ◌∷◌, ◌++◌}
 use Rattle.dpe_messages.specs.Replies.{reply_payload}
 use Rattle.dpe_model.specs.History.{Entry, state_after}
-use Rattle.dpe_model.specs.State.{State}
-use Rattle.dpe_model.specs.Step.{step}
+use Rattle.dpe_model.specs.State.{State, Machine}
+use Rattle.dpe_model.specs.Step.{Outcome, step}
 use Rattle.dpe_journal.specs.Entries.{Sent, entry_from}
 
 -- Entries in order, with room for so many.
@@ -24,6 +24,22 @@ stored_with storage e = record storage { entries = storage.entries ++ e ∷ [] }
 
 abbrev pub with_entry : BookView → Entry → BookView
 with_entry book e = record book { history = book.history ++ e ∷ [] }
+
+-- what an executor that stands there makes of what is sent
+abbrev pub outcome_of : Machine → Sent → Outcome
+outcome_of machine sent = step machine.seed machine.state sent.locality sent.random sent.payload
+
+-- where it stands then
+abbrev pub stepped : Machine → Sent → Machine
+stepped machine sent = record machine { state = (outcome_of machine sent).state }
+
+-- the payload of its reply
+abbrev pub answer_to : Machine → Sent → List ℕ
+answer_to machine sent = reply_payload (outcome_of machine sent).reply
+
+-- the entry of what a caller sends and its reply
+abbrev pub answered : Machine → ℕ → Sent → Entry
+answered machine caller sent = entry_from caller sent (answer_to machine sent)
 
 -- the state to which the history leads
 abbrev pub state_in : BookView → State

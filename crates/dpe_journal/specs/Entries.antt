@@ -2,7 +2,8 @@
 use Rattle.std.specs.Prelude.{ℕ, List}
 use Rattle.dpe_model.specs.History as history
 
--- What a caller sent: over which of its connections, as the how manieth on it, its locality, the random bytes, the payload.
+-- What a caller sent: over which of its connections, its number on that connection, from 0, its locality, the random bytes,
+-- the payload.
 pub record Sent : Type 0 where
   pub connection : ℕ
   pub index : ℕ

@@ -1,6 +1,7 @@
 -- Entries as they lie in memory: the first of those that room was taken for.
 use Rattle.std.specs.Prelude.{◌≡◌, ◌≤◌, length, map, take}
 use Rattle.dpe_journal.specs.BookViews.{Storage}
+use Rattle.dpe_journal.specs.Journal.{most_records}
 use Rattle.dpe_journal.specs.Stored.{entry_of}
 use Rattle.dpe_journal.specs.declared.storage.Stored.TheInside.{Inside}
 
@@ -9,4 +10,4 @@ storage_of s = record { capacity = length s.entries.items; entries = map entry_o
 
 pub record IsStorage (s : Inside) : Type 0 where
   pub within : s.len ≤ length s.entries.items
-  pub most : length s.entries.items ≤ 65536
+  pub most : length s.entries.items ≤ most_records

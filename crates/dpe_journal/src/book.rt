@@ -13,8 +13,7 @@ use crate::entry::{Call, Entry};
 use crate::storage::Stored;
 use crate::write::{MAX_RECORDS, SinkFault, write_journal};
 use dpe_core::Core;
-use dpe_inputs::Count;
-use dpe_io::{MAX_PACKET, Packet, Sink};
+use dpe_io::{Packet, Sink};
 use std::alloc::{AllocError, Global};
 use std::marker::Model;
 
@@ -25,8 +24,6 @@ pub struct Book {
     seed: [u8; 32],
     first: u64,
     stored: Stored,
-    /// Where the executor puts a reply.
-    room: [u8; MAX_PACKET],
 }
 
 impl Model for Book {
@@ -64,7 +61,6 @@ impl Book {
             seed: *seed,
             first: first_serial,
             stored: Stored::make(alloc, capacity)?,
-            room: [0; MAX_PACKET],
         })
     }
 
@@ -75,17 +71,7 @@ impl Book {
         ensures reply { reply.new ≡ next_reply self.old call.now }
         ensures legal { Legal self.new.seed self.new.first self.new.history }
     {
-        let mut folds = Count::new();
-        let size = self.core.execute(
-            call.locality(),
-            call.random(),
-            call.payload(),
-            &mut self.room,
-            &mut folds,
-        );
-        let (answer, _) = self.room.split_at(size);
-        self.stored.append(caller, call, answer);
-        reply.set(answer);
+        self.stored.append(&mut self.core, caller, call, reply);
     }
 
     /// How many entries the history has. It is legal, and leads to a valid state.

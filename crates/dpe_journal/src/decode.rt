@@ -1,12 +1,14 @@
 //! A record's bytes, stored as an entry.
 ghost use Rattle.std.specs.Prelude.{◌≡◌, ◌<◌, ◌≤◌, ◌+◌, ◌^◌, ◌++◌, ℕ, List, length, take, drop};
-ghost use Rattle.std.specs.Int.{from_be_bytes, w16, w32, w64};
+ghost use Rattle.std.specs.Int.{from_be_bytes, w32, w64};
 ghost use Rattle.dpe_model.specs.History as history;
 ghost use Rattle.dpe_journal.specs.Journal.{packet, header_bytes, record_bytes};
 ghost use Rattle.dpe_journal.specs.Stages.{IsHeader, IsRecord};
 ghost use Rattle.dpe_journal.specs.Stored.{entry_of};
 
 use crate::entry::Entry;
+use crate::fields::told_length;
+use dpe_io::MAX_PACKET;
 
 /// The bytes of a record before its payloads.
 const HEAD_SIZE: usize = 46;
@@ -20,18 +22,10 @@ fn number(bytes: &[u8], at: usize) -> u32
     u32::from_be_bytes([rest[0], rest[1], rest[2], rest[3]])
 }
 
-// The length that a packet's first two bytes tell.
-fn told_length(bytes: &[u8]) -> usize
-    requires { 2 ≤ length bytes.now }
-    ensures { result ≡ from_be_bytes w16 (take 2 bytes.now) }
-{
-    usize::from(u16::from_be_bytes([bytes[0], bytes[1]]))
-}
-
 // The payload of the packet at the front, and what follows it.
 fn split_packet(bytes: &[u8]) -> (&[u8], &[u8])
-    requires { (payload rest : List ℕ) × (length payload ≤ 4096) × (bytes.now ≡ packet payload ++ rest) }
-    ensures { (payload rest : List ℕ) → length payload ≤ 4096 → bytes.now ≡ packet payload ++ rest
+    requires { (payload rest : List ℕ) × (length payload ≤ MAX_PACKET) × (bytes.now ≡ packet payload ++ rest) }
+    ensures { (payload rest : List ℕ) → length payload ≤ MAX_PACKET → bytes.now ≡ packet payload ++ rest
         → (result.0.now ≡ payload) × (result.1.now ≡ rest) }
 {
     let len = told_length(bytes);

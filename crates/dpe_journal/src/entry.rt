@@ -1,16 +1,18 @@
 //! A call and its reply, stored in memory of fixed size.
-ghost use Rattle.std.specs.Prelude.{◌≡◌, ◌^◌, ◌<◌, ◌≤◌, length, []};
+ghost use Rattle.std.specs.Prelude.{◌≡◌, ◌^◌, ◌<◌, ◌≤◌, length, take, []};
 ghost use Rattle.std.proofs.Common.{replicate};
 ghost use Rattle.dpe_cbor.specs.Decoding.{AreBytes};
 ghost use Rattle.dpe_model.specs.History.{IsEntry};
-ghost use Rattle.dpe_journal.specs.Entries.{entry_from};
+ghost use Rattle.dpe_journal.specs.BookViews.{answered, answer_to, stepped};
 ghost use Rattle.dpe_journal.specs.Stored.{entry_of};
 
-use dpe_io::Packet;
+use dpe_core::Core;
+use dpe_inputs::Count;
+use dpe_io::{MAX_PACKET, Packet};
 use std::marker::Model;
 
-/// What a caller sent: over which of its connections, as the how manieth on it, its locality from 0 to 7, the random
-/// bytes drawn for it, and a payload of at most 4,096 bytes.
+/// What a caller sent: over which of its connections, its number on that connection, from 0, its locality from 0 to 7,
+/// the random bytes drawn for it, and a payload of at most 4,096 bytes.
 #[derive(Drop)]
 pub struct Call {
     connection: u32,
@@ -41,7 +43,7 @@ impl Call {
     /// A call of these five parts.
     pub fn new(connection: u32, index: u32, locality: u8, random: &[u8; 32], payload: &[u8]) -> Call
         requires near { locality ≤ 7 }
-        requires few { length payload.now ≤ 4096 }
+        requires few { length payload.now ≤ MAX_PACKET }
         ensures { result ≡ record {
           connection = connection;
           index = index;
@@ -96,7 +98,7 @@ impl Call {
     /// The command's payload.
     pub fn payload(&self) -> &[u8]
         ensures payload { result.now ≡ self.now.payload }
-        ensures few { length self.now.payload ≤ 4096 }
+        ensures few { length self.now.payload ≤ MAX_PACKET }
     {
         self.payload.bytes()
     }
@@ -112,7 +114,7 @@ impl Call {
     )
         requires near { locality ≤ 7 }
         requires random { length random.now ≡ 32 }
-        requires few { length payload.now ≤ 4096 }
+        requires few { length payload.now ≤ MAX_PACKET }
         ensures stored { self.new ≡ record {
           connection = connection;
           index = index;
@@ -128,6 +130,41 @@ impl Call {
         self.random.copy_from_slice(random);
         self.payload.set(payload);
     }
+}
+
+// Has the executor write its reply to a call into a room, and says how long it is.
+fn write_reply(core: &mut Core, call: &Call, room: &mut [u8; MAX_PACKET]) -> usize
+    ensures within { result ≤ length (take MAX_PACKET room.new) }
+    ensures reply { take result (take MAX_PACKET room.new) ≡ answer_to core.old call.now }
+    ensures core { core.new ≡ stepped core.old call.now }
+{
+    let mut folds = Count::new();
+    core.execute(
+        call.locality(),
+        call.random(),
+        call.payload(),
+        room,
+        &mut folds,
+    )
+}
+
+// Has the executor write its reply to a call into the room of a packet.
+fn execute(core: &mut Core, call: &Call, reply: &mut Packet)
+    ensures reply { reply.new ≡ answer_to core.old call.now }
+    ensures core { core.new ≡ stepped core.old call.now }
+{
+    let size = write_reply(core, call, reply.whole());
+    reply.truncate(size);
+}
+
+// Copies a packet.
+fn copy(from: &Packet, to: &mut Packet)
+    ensures copied { to.new ≡ from.now }
+    ensures few { length from.now ≤ MAX_PACKET }
+    ensures bytes { AreBytes from.now }
+{
+    let bytes = from.bytes();
+    to.set(bytes);
 }
 
 /// A call, who made it, and the reply to it.
@@ -158,11 +195,12 @@ impl Entry {
         }
     }
 
-    // Stores a caller's call and the reply to it.
-    pub(crate) fn store(&mut self, caller: u32, call: &Call, reply: &[u8])
-        requires { length reply.now ≤ 4096 }
-        ensures stored { entry_of self.new ≡ entry_from caller call.now reply.now }
-        ensures entry { IsEntry (entry_from caller call.now reply.now) }
+    // Stores a caller's call and the reply that the executor gives to it, and copies the reply out.
+    pub(crate) fn answer(&mut self, core: &mut Core, caller: u32, call: &Call, reply: &mut Packet)
+        ensures stored { entry_of self.new ≡ answered core.old caller call.now }
+        ensures entry { IsEntry (answered core.old caller call.now) }
+        ensures core { core.new ≡ stepped core.old call.now }
+        ensures reply { reply.new ≡ answer_to core.old call.now }
     {
         self.caller = caller;
         self.call.store(
@@ -172,6 +210,7 @@ impl Entry {
             call.random(),
             call.payload(),
         );
-        self.reply.set(reply);
+        execute(core, call, &mut self.reply);
+        copy(&self.reply, reply);
     }
 }

@@ -1,5 +1,5 @@
 //! The fields of which the parts of a journal are made, and how far the bytes that were read so far go.
-ghost use Rattle.std.specs.Prelude.{◌≡◌, ◌≤◌, ◌<◌, ◌+◌, ℕ, List, [], ◌∷◌, length, take, drop};
+ghost use Rattle.std.specs.Prelude.{◌≡◌, ◌≤◌, ◌<◌, ◌+◌, ◌^◌, ℕ, List, [], ◌∷◌, length, take, drop};
 ghost use Rattle.std.specs.Int.{from_be_bytes, w16};
 ghost use Rattle.dpe_journal.specs.Fields.{IsField, AreFields, Judged};
 
@@ -32,11 +32,11 @@ pub(crate) enum Front {
     Wrong,
 }
 
-// The length that a packet's first two bytes tell.
-fn told_length(bytes: &[u8]) -> usize
+/// The length that a packet's first two bytes tell.
+pub(crate) fn told_length(bytes: &[u8]) -> usize
     requires { 2 ≤ length bytes.now }
     ensures told { result ≡ from_be_bytes w16 (take 2 bytes.now) }
-    ensures range { result < 65536 }
+    ensures range { result < 2 ^ 16 }
 {
     usize::from(u16::from_be_bytes([bytes[0], bytes[1]]))
 }

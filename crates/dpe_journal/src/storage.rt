@@ -1,12 +1,13 @@
 //! Entries in order, in memory that is taken at once.
 ghost use Rattle.std.specs.Prelude.{◌≡◌, ◌<◌, ◌≤◌, [], length, map, slice_get, IfOk, Some};
 ghost use Rattle.dpe_model.specs.History.{IsEntry};
-ghost use Rattle.dpe_journal.specs.BookViews.{stored_with};
-ghost use Rattle.dpe_journal.specs.Entries.{entry_from};
+ghost use Rattle.dpe_journal.specs.BookViews.{stored_with, answered, answer_to, stepped};
 ghost use Rattle.dpe_journal.specs.Stored.{entry_of};
 
 use crate::entry::{Call, Entry};
 use crate::write::MAX_RECORDS;
+use dpe_core::Core;
+use dpe_io::Packet;
 use std::alloc::{AllocError, Global};
 use std::marker::Model;
 
@@ -84,14 +85,15 @@ impl Stored {
         &self.entries()[at as usize]
     }
 
-    /// Appends the entry of a call and the reply to it, which has at most 4,096 bytes.
-    pub(crate) fn append(&mut self, caller: u32, call: &Call, reply: &[u8])
+    /// Appends the entry of a caller's call and the reply that the executor gives to it, and copies the reply out.
+    pub(crate) fn append(&mut self, core: &mut Core, caller: u32, call: &Call, reply: &mut Packet)
         requires room { length self.old.entries < self.old.capacity }
-        requires few { length reply.now ≤ 4096 }
-        ensures appends { self.new ≡ stored_with self.old (entry_from caller call.now reply.now) }
-        ensures entry { IsEntry (entry_from caller call.now reply.now) }
+        ensures appends { self.new ≡ stored_with self.old (answered core.old caller call.now) }
+        ensures entry { IsEntry (answered core.old caller call.now) }
+        ensures core { core.new ≡ stepped core.old call.now }
+        ensures reply { reply.new ≡ answer_to core.old call.now }
     {
-        self.entries[self.len as usize].store(caller, call, reply);
+        self.entries[self.len as usize].answer(core, caller, call, reply);
         self.len += 1;
     }
 }

@@ -19,6 +19,9 @@ static REPLY: [u8; 34] = [
     0x04, 0x10,
 ];
 
+// The payload of a refusal with code 2: `[0, h'8202a0']`.
+static REFUSAL: [u8; 6] = [0x82, 0x00, 0x43, 0x82, 0x02, 0xa0];
+
 // The journal of one GetProfile of caller 7, first serial 1.
 static JOURNAL: [u8; 112] = [
     0x44, 0x50, 0x45, 0x4a, 0x01, 0x00, 0x00, 0x00, 0x00, 0x00, 0x00, 0x00, 0x01, 0x01, 0x00, 0x00,
@@ -243,6 +246,23 @@ fn a_book_of_one_call_is_the_journal_of_it(rt: HostRuntime) -> Result<(), Fail> 
     let mut sink = MemSink::new(rt.alloc(), 200, 200, &[])?;
     assert_eq!(rt; book.write_to(&mut sink), Ok(()));
     assert_eq!(rt; sink.bytes(), JOURNAL.as_slice());
+    Ok(())
+}
+
+#[test]
+fn each_reply_is_of_its_own_call(rt: HostRuntime) -> Result<(), Fail> {
+    let mut book = Book::make(rt.alloc(), &[0; 32], 1, 2)?;
+    let mut reply = Packet::new();
+    reply.set(&[9; 4096]);
+    book.step(7, &Call::new(0, 0, 0, &[0; 32], &COMMAND), &mut reply);
+    assert_eq!(rt; reply.bytes(), REPLY.as_slice());
+    book.step(8, &Call::new(1, 0, 0, &[0; 32], &[]), &mut reply);
+    assert_eq!(rt; reply.bytes(), REFUSAL.as_slice());
+    assert_eq!(rt; book.entry(0).reply.bytes(), REPLY.as_slice());
+    let refused = book.entry(1);
+    assert_eq!(rt; (refused.caller, refused.call.connection()), (8, 1));
+    assert_eq!(rt; refused.call.payload(), [].as_slice());
+    assert_eq!(rt; refused.reply.bytes(), REFUSAL.as_slice());
     Ok(())
 }
 

@@ -7,7 +7,7 @@ ghost use Rattle.dpe_journal.specs.Stored.{entry_of};
 ghost use Rattle.dpe_journal.specs.Writing.{WritesFront, WritesFrontBehind, Sends};
 
 use crate::entry::Entry;
-use dpe_io::Sink;
+use dpe_io::{MAX_PACKET, Sink};
 
 /// The most records of a journal.
 pub const MAX_RECORDS: u32 = 65_536;
@@ -85,8 +85,8 @@ fn put_draw(room: &mut [u8; ROOM], at: usize, entry: &Entry) -> usize
 
 // Puts a payload behind its length.
 fn put_packet(room: &mut [u8; ROOM], at: usize, payload: &[u8]) -> usize
-    requires few { length payload.now ≤ 4096 }
-    requires fits { at + 4098 ≤ ROOM }
+    requires few { length payload.now ≤ MAX_PACKET }
+    requires fits { at + 2 + MAX_PACKET ≤ ROOM }
     ensures end { result ≡ at + 2 + length payload.now }
     ensures put { take result room.new ≡ take at room.old ++ packet payload.now }
 {
@@ -106,8 +106,8 @@ fn put_record(room: &mut [u8; ROOM], at: usize, entry: &Entry) -> usize
 }
 
 fn put_end(room: &mut [u8; ROOM], at: usize, records: u64) -> usize
-    requires { at + 9 ≤ ROOM }
-    ensures end { result ≡ at + 9 }
+    requires { at + END_SIZE ≤ ROOM }
+    ensures end { result ≡ at + END_SIZE }
     ensures put { take result room.new ≡ take at room.old ++ end_bytes records }
 {
     let at = put(room, at, &[END]);

@@ -1,9 +1,8 @@
-use Rattle.std.proofs.Common.{◌≡◌, List, [], ◌∷◌, ◌++◌, ap, sym, subst}
+use Rattle.std.proofs.Common.{◌≡◌, List, [], ◌∷◌, ◌++◌, ap, sym, ◌∙◌, subst}
 use Rattle.dpe_model.specs.History.{Entry, Legal, state_after}
 use Rattle.dpe_model.specs.State.{Machine}
-use Rattle.dpe_journal.specs.Book.{view_of, IsBook}
-use Rattle.dpe_journal.specs.BookViews.{BookView, Storage, stored_with}
-use Rattle.dpe_journal.specs.Entries.{Sent, entry_from}
+use Rattle.dpe_journal.specs.Book.{view_of}
+use Rattle.dpe_journal.specs.BookViews.{BookView, Storage, stored_with, with_entry, answer_to, answered}
 use Rattle.dpe_journal.proofs.Booking.{Stepped, stepped_book}
 use Rattle.dpe_journal.proofs.book.Book.step.Goals as goal
 
@@ -14,25 +13,21 @@ stored_now storage now e P is h = subst (λ (s : Storage). P s.entries) (sym is)
 pub invariant_of-self : goal.invariant_of-self
 invariant_of-self c =
     let book : BookView = view_of c.self.inside in
-    let e : Entry = entry_from c.args.caller c.args.call.now c.split_at.result.0.now in
-    let did : Stepped book c.execute-size.new.self e =
-    stepped_book book c.self.inside.core c.execute-size.new.self c.args.caller c.locality.result c.execute-size.result c.args.call.now
-    c.random.result.now c.payload.result.now c.execute-size.new.out c.split_at.result.0.now c.self.invariant.legal c.self.invariant.core
-    c.locality.ensures.locality c.random.ensures.random c.payload.ensures.payload c.execute-size.ensures.reply c.execute-size.ensures.state
-    c.split_at.ensures.front c.append.ensures.entry in record {
+    let e : Entry = answered c.self.inside.core c.args.caller c.args.call.now in
+    let did : Stepped book c.append.new.core e =
+    stepped_book book c.self.inside.core c.append.new.core c.args.caller c.args.call.now c.self.invariant.legal c.self.invariant.core
+    c.append.ensures.entry c.append.ensures.core in record {
       serial = c.self.invariant.serial;
       legal = stored_now c.self.inside.stored c.append.new.self e (λ H. Legal book.seed book.first H) c.append.ensures.appends did.legal;
       core = stored_now c.self.inside.stored c.append.new.self e
-          (λ H. c.execute-size.new.self ≡ record { seed = book.seed; state = state_after book.seed book.first H }) c.append.ensures.appends did.core;
+          (λ H. c.append.new.core ≡ record { seed = book.seed; state = state_after book.seed book.first H }) c.append.ensures.appends did.core;
     }
 
 pub returns-clause-legal : goal.returns-clause-legal
 returns-clause-legal c =
     let book : BookView = view_of c.self.inside in
-    let e : Entry = entry_from c.args.caller c.args.call.now c.split_at.result.0.now in
-    let did : Stepped book c.execute-size.new.self e =
-    stepped_book book c.self.inside.core c.execute-size.new.self c.args.caller c.locality.result c.execute-size.result c.args.call.now
-    c.random.result.now c.payload.result.now c.execute-size.new.out c.split_at.result.0.now c.self.invariant.legal c.self.invariant.core
-    c.locality.ensures.locality c.random.ensures.random c.payload.ensures.payload c.execute-size.ensures.reply c.execute-size.ensures.state
-    c.split_at.ensures.front c.append.ensures.entry in
+    let e : Entry = answered c.self.inside.core c.args.caller c.args.call.now in
+    let did : Stepped book c.append.new.core e =
+    stepped_book book c.self.inside.core c.append.new.core c.args.caller c.args.call.now c.self.invariant.legal c.self.invariant.core
+    c.append.ensures.entry c.append.ensures.core in
     stored_now c.self.inside.stored c.append.new.self e (λ H. Legal book.seed book.first H) c.append.ensures.appends did.legal
