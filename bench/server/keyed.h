@@ -48,18 +48,26 @@ static inline void store_big(uint8_t *bytes, uint64_t word) {
   memcpy(bytes, &word, 8);
 }
 
-#define SPREAD(w, i)                                                                                 \
-  (w[i] += (rotated(w[(i + 14) & 15], 19) ^ rotated(w[(i + 14) & 15], 61) ^ w[(i + 14) & 15] >> 6) + \
-           w[(i + 9) & 15] + (rotated(w[(i + 1) & 15], 1) ^ rotated(w[(i + 1) & 15], 8) ^ w[(i + 1) & 15] >> 7))
+/* The standard's functions with nested rotations, which take fewer copies. */
+#define BIG_0(x) rotated(x ^ rotated(x ^ rotated(x, 5), 6), 28)
+#define BIG_1(x) rotated(x ^ rotated(x ^ rotated(x, 23), 4), 14)
+#define SMALL_0(x) (rotated(x ^ rotated(x, 7), 1) ^ x >> 7)
+#define SMALL_1(x) (rotated(x ^ rotated(x, 42), 19) ^ x >> 6)
 
-#define ROUND(a, b, c, d, e, f, g, h, k, word)                                                 \
-  do {                                                                                         \
-    uint64_t sum = h + (rotated(e, 14) ^ rotated(e, 18) ^ rotated(e, 41)) + (g ^ (e & (f ^ g))) + k + word; \
-    d += sum;                                                                                  \
-    h = sum + (rotated(a, 28) ^ rotated(a, 34) ^ rotated(a, 39)) + ((a & b) | (c & (a | b)));  \
+#define AS_IS(w, i) w[i]
+#define SPREAD(w, i) (w[i] += SMALL_1(w[(i + 14) & 15]) + w[(i + 9) & 15] + SMALL_0(w[(i + 1) & 15]))
+
+/* One round. `last` is b ^ c, and becomes a ^ b, which the next round takes. */
+#define ROUND(a, b, c, d, e, f, g, h, k, word)      \
+  do {                                              \
+    h += BIG_1(e) + (g ^ (e & (f ^ g))) + k + word; \
+    d += h;                                         \
+    uint64_t both = a ^ b;                          \
+    h += BIG_0(a) + (b ^ (both & last));            \
+    last = both;                                    \
   } while (0)
 
-#define EIGHT(i, next)                             \
+#define EIGHT(i, next)                                     \
   ROUND(a, b, c, d, e, f, g, h, k[i + 0], next(w, i + 0)); \
   ROUND(h, a, b, c, d, e, f, g, k[i + 1], next(w, i + 1)); \
   ROUND(g, h, a, b, c, d, e, f, k[i + 2], next(w, i + 2)); \
@@ -69,13 +77,12 @@ static inline void store_big(uint8_t *bytes, uint64_t word) {
   ROUND(c, d, e, f, g, h, a, b, k[i + 6], next(w, i + 6)); \
   ROUND(b, c, d, e, f, g, h, a, k[i + 7], next(w, i + 7))
 
-#define AS_IS(w, i) w[i]
-
 static void compress(uint64_t state[8], const uint8_t *block) {
   uint64_t w[16];
   for (int i = 0; i < 16; i++) w[i] = load_big(block + 8 * i);
   uint64_t a = state[0], b = state[1], c = state[2], d = state[3];
   uint64_t e = state[4], f = state[5], g = state[6], h = state[7];
+  uint64_t last = b ^ c;
   const uint64_t *k = ROUND_WORDS;
   EIGHT(0, AS_IS);
   EIGHT(8, AS_IS);
