@@ -176,7 +176,8 @@ def print_table(best, names, counts):
     """A line for each number of doors: each rate, the rates beside the model's, and those beside the first line's."""
     others = names[1:]
     heads = ["doors", *names, *(f"{name} beside {names[0]}" for name in others)]
-    heads += ["wanted"] * bool(others) + [f"{name} beside {counts[0]} door{'s' * (counts[0] > 1)}" for name in names]
+    first = "1 door" if counts[0] == 1 else f"{counts[0]} doors"
+    heads += ["wanted"] * bool(others) + [f"{name} beside {first}" for name in names]
     print("| " + " | ".join(heads) + " |")
     print("|---" * len(heads) + "|")
     for doors in counts:
@@ -192,8 +193,8 @@ def read_words():
     parser.add_argument("--server", metavar="PATH", default=SERVER, type=Path, help="default: that of crates/dpe_server")
     parser.add_argument("--alone", action="store_true", help="run the model alone")
     parser.add_argument("--doors", metavar="N", type=int, nargs="+", help="default: 1 4 8 16, or 1 16 with --processors")
-    parser.add_argument("--commands", metavar="N", type=int, default=16384, help="the Signs of a run, over all doors (default: %(default)s)")
-    parser.add_argument("--repeats", metavar="N", type=int, default=5, help="the runs of each (default: %(default)s)")
+    parser.add_argument("--commands", metavar="N", type=int, default=8192, help="the Signs of a run (default: %(default)s)")
+    parser.add_argument("--repeats", metavar="N", type=int, default=9, help="the runs of each (default: %(default)s)")
     parser.add_argument("--processors", metavar="N", type=int, help="run on the first N processors alone, by taskset")
     parser.add_argument("--compiler", metavar="NAME", help="default: cc, clang or gcc, or else that of the kit")
     words = parser.parse_args()
