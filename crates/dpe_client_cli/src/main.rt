@@ -3,9 +3,21 @@
 
 use dpe_client::client_main;
 use dpe_io::WriteSink;
-use dpe_unix::FileDock;
+use dpe_unix::{FileDock, NoStart, program_words};
 use std::process::ExitCode;
-use std::{env, io};
+
+// Takes the words, makes the call, and answers its status.
+fn status(rt: HostRuntime) -> Result<u8, NoStart> {
+    let words = program_words(&rt)?;
+    let mut texts = Vec::new(rt.alloc());
+    for word in &words {
+        texts.push(word.as_str())?;
+    }
+    let mut dock = FileDock::new(rt);
+    // Each line goes out in one call, as soon as its reply is there.
+    let mut out = WriteSink::new(rt.stdout());
+    Ok(client_main(rt.alloc(), &texts, &mut dock, &mut out))
+}
 
 // Tells a status other than 0 on standard error, and ends with it.
 fn finish(rt: &HostRuntime, status: u8) -> ExitCode {
@@ -15,28 +27,9 @@ fn finish(rt: &HostRuntime, status: u8) -> ExitCode {
     ExitCode::from(status)
 }
 
-fn main(rt: HostRuntime) -> io::Result<ExitCode> {
-    let arguments = match env::args(&rt) {
-        Ok(arguments) => arguments,
-        Err(error) => {
-            // A word that isn't UTF-8 is a faulty one.
-            if error.kind() == io::ErrorKind::InvalidData {
-                return Ok(finish(&rt, 2));
-            }
-            return Err(error);
-        }
-    };
-    let mut words = Vec::new(rt.alloc());
-    for word in arguments.skip(1) {
-        words.push(word)?;
+fn main(rt: HostRuntime) -> ExitCode {
+    match status(rt) {
+        Ok(status) => finish(&rt, status),
+        Err(fault) => finish(&rt, fault.status()),
     }
-    let mut texts = Vec::new(rt.alloc());
-    for word in &words {
-        texts.push(word.as_str())?;
-    }
-    let mut dock = FileDock::new(rt);
-    // Each line goes out in one call, as soon as its reply is there.
-    let mut out = WriteSink::new(rt.stdout());
-    let status = client_main(rt.alloc(), &texts, &mut dock, &mut out);
-    Ok(finish(&rt, status))
 }

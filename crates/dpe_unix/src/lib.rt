@@ -12,6 +12,7 @@ mod shelf;
 #[cfg(test)]
 mod tests;
 mod urandom;
+mod words;
 
 pub use ahead::{AHEAD, ReadAhead};
 pub use dock::FileDock;
@@ -20,3 +21,4 @@ pub use house::UnixHouse;
 pub use link::UnixLink;
 pub use shelf::FileShelf;
 pub use urandom::Urandom;
+pub use words::{NoStart, program_words};

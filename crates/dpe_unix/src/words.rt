@@ -1,0 +1,60 @@
+//! How a program begins.
+ghost use Rattle.std.specs.Prelude.{◌≡◌};
+ghost use Rattle.dpe_unix.specs.declared.words.NoStart.TheVariants.{FaultyWords, NoMemory};
+
+use std::alloc::{AllocError, AllocFailed};
+use std::rt::Env;
+use std::{env, io};
+
+/// Why a program can't begin.
+#[derive(Clone, Copy, Debug, PartialEq, Eq)]
+pub enum NoStart {
+    /// A word isn't UTF-8, so the words aren't of the program's form.
+    FaultyWords,
+    /// Want of memory.
+    NoMemory,
+}
+
+impl NoStart {
+    /// The status that the program ends with: 2 for faulty words, and 3 for want of memory.
+    pub fn status(self) -> u8
+        ensures words { self ≡ FaultyWords → result ≡ 2 }
+        ensures memory { self ≡ NoMemory → result ≡ 3 }
+    {
+        match self {
+            NoStart::FaultyWords => 2,
+            NoStart::NoMemory => 3,
+        }
+    }
+}
+
+impl<T: Drop> From<AllocFailed<T>> for NoStart {
+    fn from(_failed: AllocFailed<T>) -> NoStart {
+        NoStart::NoMemory
+    }
+}
+
+impl From<AllocError> for NoStart {
+    fn from(_error: AllocError) -> NoStart {
+        NoStart::NoMemory
+    }
+}
+
+/// The words behind the program's name.
+// no clause: std doesn't say which words a program is given.
+pub fn program_words<R: Env + AllocGlobal>(rt: &R) -> Result<Vec<String>, NoStart> {
+    let arguments = match env::args(rt) {
+        Ok(arguments) => arguments,
+        Err(error) => {
+            if error.kind() == io::ErrorKind::InvalidData {
+                return Err(NoStart::FaultyWords);
+            }
+            return Err(NoStart::NoMemory);
+        }
+    };
+    let mut words = Vec::new(rt.alloc());
+    for word in arguments.skip(1) {
+        words.push(word)?;
+    }
+    Ok(words)
+}
