@@ -2,7 +2,6 @@ pub mod Lists
 pub mod Numbers
 pub mod Spelling
 pub mod Scripts
-pub mod Digits
 pub mod Places
 pub mod Knowing
 pub mod Settling

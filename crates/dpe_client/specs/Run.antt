@@ -4,6 +4,7 @@ use Rattle.std.specs.Io.KnownBytes.{Consumes, Appends, IsAtEnd}
 use Rattle.dpe_link.specs.Frames.{frame, told_length}
 use Rattle.dpe_link.specs.Reading.{IsNoFrame}
 use Rattle.dpe_io.specs.Causes.{Rose}
+pub use Rattle.dpe_text.specs.Writing.{AppendsFront}
 use Rattle.dpe_client.specs.Acts.{Act}
 use Rattle.dpe_client.specs.Script.{Line}
 use Rattle.dpe_client.specs.Meaning.{Values, Answer, IsAnswerTo, asked_of, answer_payload, sent_payload, said_of, after, sent, got, said}
@@ -11,10 +12,6 @@ use Rattle.dpe_client.specs.Answered.{Answers, IsNoAnswer}
 use Rattle.dpe_client.specs.declared.run.Cause.{Cause}
 use Rattle.dpe_client.specs.declared.run.LineFault.{LineFault}
 use Rattle.dpe_client.specs.declared.run.Cause.TheVariants.{Link, Reply, Output}
-
--- a front of the text was appended
-abbrev pub AppendsFront : Option (List ℕ) → Option (List ℕ) → List ℕ → Type 0
-AppendsFront old new text = (front : List ℕ) × (rest : List ℕ) × (text ≡ front ++ rest) × Appends old new front
 
 -- What a link has left and what it got, where it tells them, and its counts of failed reads and of failed writes.
 pub record Told : Type 0 where
@@ -142,7 +139,9 @@ IsFront lines answers link old new =
 abbrev pub IsRefused : Line → List Line → List Answer → ℕ → Told → Told → Type 0
 IsRefused line lines answers link old new =
     Appends old.bytes new.bytes (sent lines answers link)
-    × ((taken : List ℕ) × (((line.link ≡ link → ⊥) × (taken ≡ [])) ⊎ ((line.link ≡ link) × IsNoReply line.act new.left taken)) × Consumes old.left new.left (got lines answers link ++ taken))
+    × ((taken : List ℕ)
+    × (((line.link ≡ link → ⊥) × (taken ≡ [])) ⊎ ((line.link ≡ link) × IsNoReply line.act new.left taken))
+    × Consumes old.left new.left (got lines answers link ++ taken))
 
 module _ {L : Type 0} (told : L → Told) (lines : List Line) (old new : List L) (out_old out_new : Option (List ℕ)) where
   -- each line was answered, and all was printed

@@ -12,9 +12,9 @@ ghost use Rattle.dpe_client.specs.Answered.{answer_line, Takes, IsNoAnswer};
 
 use crate::act::Act;
 use crate::script::Line;
-use crate::text::Text;
 use crate::values::{Values, made_bytes_of};
 use dpe_messages::{Asked, Reply, read_reply};
+use dpe_text::Text;
 
 // The command that a reply has to answer; none for `raw`.
 fn asked_of(act: &Act<'_>) -> Option<Asked>
@@ -67,7 +67,7 @@ fn begin(number: usize) -> Text
     ensures few { length result ≤ 21 }
 {
     let mut text = Text::new();
-    text.push_number(number);
+    text.push_number(number as u64);
     text.push(b" ");
     text
 }
@@ -78,7 +78,7 @@ fn reply_text(number: usize, reply: &Reply<'_>) -> Text
     ensures { result ≡ answer_line number (response (response_of reply.now)) }
 {
     let mut text = begin(number);
-    text.push_number(usize::from(code_of(reply)));
+    text.push_number(u64::from(code_of(reply)));
     push_shown(&mut text, made_bytes_of(reply));
     text.push(b"\n");
     text

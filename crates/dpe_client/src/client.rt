@@ -15,12 +15,12 @@ ghost use Rattle.dpe_client.specs.Values.{texts};
 
 use crate::end::End;
 use crate::links::run_on_links;
-use crate::run::{Cause, print};
+use crate::run::Cause;
 use crate::script::{Line, MAX_SCRIPT, Script, ScriptFault, read_script};
-use crate::text::Text;
 use crate::values::Values;
 use dpe_io::{Dock, Failed, Sink};
 use dpe_link::fill;
+use dpe_text::{Text, print};
 use std::alloc::Global;
 
 /// The most links.
@@ -78,7 +78,7 @@ fn bad_line_text(line: usize) -> Text
 {
     let mut text = Text::new();
     text.push(b"line ");
-    text.push_number(line);
+    text.push_number(line as u64);
     text.push(b"\n");
     text
 }
@@ -90,7 +90,7 @@ fn fault_text(line: usize, what: &[u8]) -> Text
 {
     let mut text = Text::new();
     text.push(b"line ");
-    text.push_number(line);
+    text.push_number(line as u64);
     text.push(b" ");
     text.push(what);
     text.push(b"\n");

@@ -14,7 +14,6 @@ mod run;
 mod script;
 #[cfg(test)]
 mod tests;
-mod text;
 mod value;
 mod values;
 
@@ -24,6 +23,5 @@ pub use client::client_main;
 pub use command::write_act;
 pub use names::Names;
 pub use script::{Line, Script, ScriptFault, read_script};
-pub use text::Text;
 pub use value::Value;
 pub use values::Values;

@@ -5,7 +5,7 @@ ghost use Rattle.std.specs.List.{list_any};
 ghost use Rattle.dpe_client.specs.Values.{texts, value_of, HasSize, number_in, name_in};
 ghost use Rattle.dpe_client.specs.Options.{has_key, value_at as value_behind, are_known as known_words, are_single as single_words, bytes_in as sized_bytes, bytes_at as bytes_behind, number_at as number_behind, or_default, optional, empty_in};
 
-use crate::value::{MAX_BYTES, Value, bytes_in, decode, parse_name, parse_number};
+use crate::value::{MAX_BYTES, Value, bytes_in, decode, parse_name, parse_up_to};
 
 // Whether a word begins with one of the keys.
 fn is_known(word: &[u8], keys: &[&[u8]]) -> bool
@@ -135,7 +135,7 @@ pub fn number_at(words: &[&[u8]], key: &[u8], most: u8) -> Option<u8>
 {
     match value_at(words, key) {
         None => None,
-        Some(text) => parse_number(text, most),
+        Some(text) => parse_up_to(text, most),
     }
 }
 
@@ -145,7 +145,7 @@ pub fn number_or(words: &[&[u8]], key: &[u8], most: u8, default: u8) -> Option<u
 {
     match value_at(words, key) {
         None => Some(default),
-        Some(text) => parse_number(text, most),
+        Some(text) => parse_up_to(text, most),
     }
 }
 
@@ -155,7 +155,7 @@ pub fn optional_number(words: &[&[u8]], key: &[u8], most: u8) -> Option<Option<u
 {
     match value_at(words, key) {
         None => Some(None),
-        Some(text) => match parse_number(text, most) {
+        Some(text) => match parse_up_to(text, most) {
             None => None,
             Some(number) => Some(Some(number)),
         },

@@ -16,6 +16,7 @@ use crate::script::Line;
 use crate::values::Values;
 use dpe_io::{Duplex, Failed, Sink};
 use dpe_link::{FrameFault, read_frame, write_frame};
+use dpe_text::print;
 
 /// Why a script ended before its last line.
 #[derive(Clone, Copy, Debug, PartialEq, Eq)]
@@ -33,22 +34,6 @@ pub enum Cause {
 pub struct LineFault {
     pub line: usize,
     pub cause: Cause,
-}
-
-/// Writes a whole text.
-pub fn print<O: Sink>(out: &mut O, text: &[u8]) -> Result<(), Failed>
-    ensures ok { OnOk result (Appends (O.bytes out.old) (O.bytes out.new) text.now) }
-    ensures front { OnErr result (AppendsFront (O.bytes out.old) (O.bytes out.new) text.now) }
-    ensures cause { HasCause (O.faults out.old) (O.faults out.new) result }
-{
-    let mut written = 0;
-    while written < text.len() {
-        match out.write(&text[written..]) {
-            Ok(count) => written += count,
-            Err(_) => return Err(Failed),
-        }
-    }
-    Ok(())
 }
 
 // Sends the frame of a payload.

@@ -1,7 +1,7 @@
 mod boot;
 mod runs;
 
-use crate::{ScriptFault, Text, read_script};
+use crate::{ScriptFault, read_script};
 use std::alloc::Global;
 use std::test::Fail;
 
@@ -155,19 +155,5 @@ fn a_script_has_1024_names(rt: HostRuntime) -> Result<(), Fail> {
     assert_eq!(rt; first_bad(rt.alloc(), &script), None);
     add_init(&mut script, 1_024)?;
     assert_eq!(rt; first_bad(rt.alloc(), &script), Some(1_026));
-    Ok(())
-}
-
-#[test]
-fn a_text_is_put_together(rt: HostRuntime) -> Result<(), Fail> {
-    let mut text = Text::new();
-    text.push_number(0);
-    assert_eq!(rt; text.bytes(), b"0".as_slice());
-    text.push(b" ");
-    text.push_number(usize::MAX);
-    assert_eq!(rt; text.bytes(), b"0 18446744073709551615".as_slice());
-    text.push(b" ");
-    text.push_hex(&[0x0f, 0xa0]);
-    assert_eq!(rt; text.bytes(), b"0 18446744073709551615 0fa0".as_slice());
     Ok(())
 }

@@ -7,6 +7,8 @@ ghost use Rattle.std.specs.Fmt.{decimal};
 ghost use Rattle.hex.specs.Hex.{decode_of, decode_sized};
 ghost use Rattle.dpe_client.specs.Values.{bytes_value, times_64, sized, number_in, name_in, value_of, spelt_by, HasSize, is_name_byte};
 
+use dpe_text::parse_number;
+
 /// The most characters of a name.
 const MAX_NAME: usize = 32;
 
@@ -136,45 +138,20 @@ pub fn parse_name(text: &[u8]) -> Option<&[u8]>
     None
 }
 
-// A number in decimal digits, with no sign and no leading zero but in `0` itself.
-fn parse_decimal(text: &str) -> Option<u8>
-    ensures found { IfSome result (λ n. text.now ≡ decimal n) }
-    ensures range { IfSome result (λ n. n < 2 ^ 8) }
-    ensures none { IfNone result ((n : ℕ) → n < 2 ^ 8 → text.now ≡ decimal n → ⊥) }
-{
-    let bytes = text.as_bytes();
-    if bytes.is_empty() {
-        return None;
-    }
-    if bytes[0] == b'+' {
-        return None;
-    }
-    if bytes[0] == b'0' {
-        if bytes.len() == 1 {
-            return Some(0);
-        }
-        return None;
-    }
-    match text.parse::<u8>() {
-        Ok(n) => Some(n),
-        Err(_) => None,
-    }
-}
-
 /// The number of a word, where it is up to the limit.
-pub fn parse_number(text: &[u8], most: u8) -> Option<u8>
+pub fn parse_up_to(text: &[u8], most: u8) -> Option<u8>
     ensures { result ≡ number_in most text.now }
 {
     let Ok(digits) = str::from_utf8(text) else {
         return None;
     };
-    match parse_decimal(digits) {
+    match parse_number(digits) {
         None => None,
         Some(n) => {
-            if n > most {
+            if n > u64::from(most) {
                 return None;
             }
-            Some(n)
+            Some(n as u8)
         }
     }
 }
