@@ -46,11 +46,6 @@ given_reply core sent locality size random payload out l r p n reply =
     subst (λ (t : List ℕ). (size ≤ length t) × (take size t ≡ answer_to core sent)) whole
     (reply.0, reply.1 ∙ ap (λ (o : Outcome). reply_payload o.reply) (same_step core sent locality random payload l r p))
 
-pub machine_there : (core now : Machine) (sent : Sent) (locality : ℕ) (random payload : List ℕ) → locality ≡ sent.locality → random ≡ sent.random
-    → payload ≡ sent.payload → now ≡ record core { state = (step core.seed core.state locality random payload).state } → now ≡ stepped core sent
-machine_there core now sent locality random payload l r p is =
-    is ∙ ap (λ (o : Outcome). record core { state = o.state }) (same_step core sent locality random payload l r p)
-
 abbrev pub machine_in : BookView → Machine
 machine_in book = record { seed = book.seed; state = state_in book }
 

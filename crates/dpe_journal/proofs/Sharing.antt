@@ -1,5 +1,5 @@
 -- A history, and the list of calls and replies that it is to those that share the book.
-use Rattle.std.proofs.Common.{◌≡◌, ℕ, List, [], ◌∷◌, refl, ap, sym, map, subst}
+use Rattle.std.proofs.Common.{◌≡◌, List, [], ◌∷◌, refl, ap, sym, map, subst}
 use Rattle.dpe_model.specs.History as history
 use Rattle.dpe_model.specs.History.{Legal}
 use Rattle.dpe_journal.specs.BookViews.{BookView, with_entry}

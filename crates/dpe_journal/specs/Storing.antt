@@ -1,5 +1,5 @@
 -- Entries as they lie in memory: the first of those that room was taken for.
-use Rattle.std.specs.Prelude.{◌≡◌, ◌≤◌, length, map, take}
+use Rattle.std.specs.Prelude.{◌≤◌, length, map, take}
 use Rattle.dpe_journal.specs.BookViews.{Storage}
 use Rattle.dpe_journal.specs.Journal.{most_records}
 use Rattle.dpe_journal.specs.Stored.{entry_of}

@@ -1,4 +1,4 @@
-use Rattle.dpe_journal.specs.Shared.{entry_in, IsLegalFor}
+use Rattle.dpe_journal.specs.Shared.{entry_in}
 use Rattle.std.proofs.Common.{map}
 use Rattle.dpe_journal.proofs.shared.seen_is_legal.Goals as goal
 

@@ -1,8 +1,7 @@
-use Rattle.std.proofs.Common.{◌≡◌, List, [], ◌∷◌, ◌++◌, ap, sym, ◌∙◌, subst}
+use Rattle.std.proofs.Common.{◌≡◌, List, [], ◌∷◌, ◌++◌, sym, subst}
 use Rattle.dpe_model.specs.History.{Entry, Legal, state_after}
-use Rattle.dpe_model.specs.State.{Machine}
 use Rattle.dpe_journal.specs.Book.{view_of}
-use Rattle.dpe_journal.specs.BookViews.{BookView, Storage, stored_with, with_entry, answer_to, answered}
+use Rattle.dpe_journal.specs.BookViews.{BookView, Storage, stored_with, answered}
 use Rattle.dpe_journal.proofs.Booking.{Stepped, stepped_book}
 use Rattle.dpe_journal.proofs.book.Book.step.Goals as goal
 
