@@ -3,6 +3,8 @@ pub mod Endings
 pub mod JudgedRecords
 pub mod ListedRecords
 pub mod OneThing
+pub mod Parsing
 pub mod Prints
 pub mod Records
 pub mod Replaying
+pub mod Walking

@@ -4,12 +4,13 @@ use Rattle.std.proofs.lemmas.List.{length-append, length-take}
 use Rattle.std.specs.Io.KnownBytes.{Consumes, IsAtEnd}
 use Rattle.dpe_io.specs.Causes.{Rose}
 use Rattle.dpe_io.specs.Told.{Kind, Opens, OpensNone, Returns, Placed}
+use Rattle.dpe_link.specs.Reading.{TakesPart}
 use Rattle.dpe_journal.specs.Places.{Reading}
 use Rattle.dpe_journal.specs.Stages.{at_front}
 use Rattle.dpe_replay.specs.Audit.{Ends, HasEndCause}
 use Rattle.dpe_replay.specs.Mode.{Mode, check, live, list, connection, Judges}
 use Rattle.dpe_replay.specs.Replay.{SameCounts, CountRose, Audits, TakesSeed, Replays, RunEnds, FileEnds, HasRunCause}
-use Rattle.dpe_replay.specs.Shelves.{Lends, HasSeed, HasNoSeed, ReadsSeed, GivesSeed, HasSeedCause}
+use Rattle.dpe_replay.specs.Shelves.{Lends, HasSeed, HasNoSeed, ReadsSeed, GivesSeed, HasSeedCause, TakesFew}
 use Rattle.dpe_replay.specs.declared.audit.End.{End}
 use Rattle.dpe_replay.specs.declared.audit.End.TheVariants as ends
 use Rattle.dpe_replay.specs.declared.seed.SeedFile.{SeedFile}
@@ -73,10 +74,12 @@ module _ {T : Type 0} (left : T → Option (List ℕ)) (faults : T → ℕ) (mod
 -- ## The seed
 
 module _ {T : Type 0} (left : T → Option (List ℕ)) (faults : T → ℕ) (old new : Kind T) (file after : T) (lends : Lends faults old 0 file after new) where
-  pub seed_read : (seed : SeedFile) → GivesSeed (left file) seed → HasSeedCause (faults file) (faults after) seed → ReadsSeed left faults old new seed
-  seed_read (Holds seed) gives cause = record { file = file; after = after; lends = lends; kept = cause ∙ lends.faultless; size = gives.0; bytes = gives.1 }
-  seed_read WrongSize gives cause = record { file = file; after = after; lends = lends; kept = cause ∙ lends.faultless; size = gives }
-  seed_read Unread gives cause = inr (record { file = file; after = after; lends = lends; rose = subst (λ n. Rose n (faults after)) lends.faultless cause })
+  pub seed_read : (seed : SeedFile) → GivesSeed (left file) seed → TakesFew (left file) (left after) → HasSeedCause (faults file) (faults after) seed → ReadsSeed left faults old new seed
+  seed_read (Holds seed) gives few cause =
+      record { file = file; after = after; lends = lends; kept = cause ∙ lends.faultless; few = few; size = gives.0; bytes = gives.1 }
+  seed_read WrongSize gives few cause = record { file = file; after = after; lends = lends; kept = cause ∙ lends.faultless; few = few; size = gives }
+  seed_read Unread gives few cause =
+      inr (record { file = file; after = after; lends = lends; rose = subst (λ n. Rose n (faults after)) lends.faultless cause; few = few })
 
 -- what a source at its end gave is all of its bytes
 all_given : (old new : Option (List ℕ)) (front bytes : List ℕ) → Consumes old new front → IsAtEnd new → old ≡ Some bytes → bytes ≡ front
@@ -91,6 +94,13 @@ front_given None new front bytes c is = cc
 front_given (Some xs) None front bytes c is = absurd c
 front_given (Some xs) (Some ys) front bytes c is =
     let same : xs ≡ bytes = cc in omega (arith, ap length same, ap length c, length-append front ys)
+
+-- a room of 33 bytes was filled, or its front
+pub fills_few : (old new : Option (List ℕ)) (room : List ℕ) (count : ℕ) → length room ≡ 33 → count ≤ length room → Consumes old new (take count room) → TakesFew old new
+fills_few old new room count long within taken = (take count room, taken, omega (arith, length-take count room, long, within))
+
+pub part_few : (old new : Option (List ℕ)) (size : ℕ) → size ≡ 33 → TakesPart old new size → TakesFew old new
+part_few old new size is p = (p.0, p.1, omega (arith, is, p.2))
 
 pub whole_seed : (old new : Option (List ℕ)) (room : List ℕ) (count : ℕ) → length room ≡ 33 → Consumes old new (take count room) → (count < length room → IsAtEnd new) → count ≡ 32
     → (bytes : List ℕ) → old ≡ Some bytes → bytes ≡ take 32 room
@@ -159,10 +169,10 @@ later_cause old mid new ends.WriteFault writes written s h = h
 later_cause old mid new ends.NoMemory writes written s h = ((h.0.0 ∙ s.0, h.0.1 ∙ s.1), h.1)
 later_cause old mid new ends.WrongSeed writes written s h = ((h.0.0 ∙ s.0, h.0.1 ∙ s.1), h.1)
 
-pub no_seed_cause : {T : Type 0} (faults : T → ℕ) (old new : Kind T) → HasNoSeed faults old new → CountRose old new
-no_seed_cause faults old new (inl none) = inl none.rose
-no_seed_cause faults old new (inr u) = lends_rose faults old new 0 u.file u.after u.lends u.rose
+pub no_seed_cause : {T : Type 0} (left : T → Option (List ℕ)) (faults : T → ℕ) (old new : Kind T) → HasNoSeed left faults old new → CountRose old new
+no_seed_cause left faults old new (inl none) = inl none.rose
+no_seed_cause left faults old new (inr u) = lends_rose faults old new 0 u.file u.after u.lends u.rose
 
-pub no_seed_out : {T : Type 0} (faults : T → ℕ) (old new : Kind T) → HasNoSeed faults old new → new.out ≡ old.out
-no_seed_out faults old new (inl none) = opens_none_out old new none
-no_seed_out faults old new (inr u) = lends_out faults old new 0 u.file u.after u.lends
+pub no_seed_out : {T : Type 0} (left : T → Option (List ℕ)) (faults : T → ℕ) (old new : Kind T) → HasNoSeed left faults old new → new.out ≡ old.out
+no_seed_out left faults old new (inl none) = opens_none_out old new none
+no_seed_out left faults old new (inr u) = lends_out faults old new 0 u.file u.after u.lends

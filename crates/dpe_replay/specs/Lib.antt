@@ -1,4 +1,5 @@
 pub mod Audit
+pub mod Commands
 pub mod Finding
 pub mod Front
 pub mod Judging

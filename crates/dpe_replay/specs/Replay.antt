@@ -83,7 +83,7 @@ module _ {T : Type 0} (left : T → Option (List ℕ)) (faults : T → ℕ) wher
   abbrev pub FailsToRead : Mode → Kind T → Kind T → Option (List ℕ) → Option (List ℕ) → Type 0
   FailsToRead mode old new got_old got_new =
       Replays mode old new got_old got_new ends.ReadFault
-      ⊎ ((NotOpened mode old new × (got_new ≡ got_old)) ⊎ (Judges mode × HasNoSeed faults old new × (got_new ≡ got_old)))
+      ⊎ ((NotOpened mode old new × (got_new ≡ got_old)) ⊎ (Judges mode × HasNoSeed left faults old new × (got_new ≡ got_old)))
 
   -- the journal was audited; or nothing was printed, since a file couldn't be opened or the seed not taken
   abbrev pub RunEnds : Mode → Kind T → Kind T → Option (List ℕ) → Option (List ℕ) → End → Type 0

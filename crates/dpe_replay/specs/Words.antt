@@ -1,8 +1,11 @@
 -- The program's words.
 use Rattle.std.specs.Prelude.{◌≡◌, ◌≢◌, ℕ, ◌^◌, ◌<◌, List, [], ◌∷◌, length, map, codes, slice_index}
 use Rattle.std.specs.Fmt.{decimal}
+use Rattle.std.specs.List.{AllByRecursion}
 use Rattle.std.specs.Borrow.{Bor}
 use Rattle.dpe_replay.specs.Mode.{Mode, check, live, list, connection}
+use Rattle.dpe_replay.specs.declared.words.Answer.{Answer}
+use Rattle.dpe_replay.specs.declared.words.Answer.TheVariants as answers
 use Rattle.dpe_replay.specs.declared.words.Request.{Request}
 use Rattle.dpe_replay.specs.declared.words.Request.TheVariants as requests
 
@@ -45,3 +48,25 @@ mode_of (requests.Check seed journal) = check
 mode_of (requests.Live seed journal) = live
 mode_of (requests.List journal) = list
 mode_of (requests.Connection journal caller number) = connection caller number
+
+-- the words of which this is read
+abbrev pub words_of : Request → List (List ℕ)
+words_of (requests.Check seed journal) = codes "check" ∷ seed.now ∷ journal.now ∷ []
+words_of (requests.Live seed journal) = codes "live" ∷ seed.now ∷ journal.now ∷ []
+words_of (requests.List journal) = codes "list" ∷ journal.now ∷ []
+words_of (requests.Connection journal caller number) =
+    codes "connection" ∷ journal.now ∷ decimal caller ∷ decimal number ∷ []
+
+-- the numbers are below 2^32
+abbrev pub InRange : Request → Type 0
+InRange (requests.Check seed journal) = Unit {0}
+InRange (requests.Live seed journal) = Unit {0}
+InRange (requests.List journal) = Unit {0}
+InRange (requests.Connection journal caller number) = (caller < 2 ^ 32) × (number < 2 ^ 32)
+
+-- The words ask for this, which has the paths where the words have them; or for nothing. Where memory is wanted, each of
+-- them may be a path.
+abbrev pub IsAnswer : List (List ℕ) → Answer → Type 0
+IsAnswer words (answers.Request request) = IsRequest words (mode_of request) × (words ≡ words_of request)
+IsAnswer words answers.NoForm = (mode : Mode) → IsRequest words mode → ⊥
+IsAnswer words answers.NoMemory = AllByRecursion IsPath words

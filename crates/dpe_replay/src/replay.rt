@@ -1,4 +1,5 @@
-ghost use Rattle.std.specs.Prelude.{◌≡◌, ◌≢◌, ◌↔◌, ◌⊎◌};
+ghost use Rattle.std.specs.Prelude.{◌≡◌, ◌≢◌, ◌⊎◌};
+ghost use Rattle.std.specs.List.{AllByRecursion};
 ghost use Rattle.dpe_io.specs.Causes.{Rose};
 ghost use Rattle.dpe_replay.specs.Finding.{Finding, status_of};
 ghost use Rattle.dpe_replay.specs.Listing.{mode_of as mode_listing};
@@ -8,13 +9,13 @@ ghost use Rattle.dpe_replay.specs.Replay.{FailsToRead, RunEnds, FileEnds, HasRun
 ghost use Rattle.dpe_replay.specs.Shelves.{HasWrongSize};
 ghost use Rattle.dpe_replay.specs.Tasks.{mode_of as mode_of_task, seed_of};
 ghost use Rattle.dpe_replay.specs.Verdicts.{mode_of as mode_viewing};
-ghost use Rattle.dpe_replay.specs.Words.{texts, mode_of};
+ghost use Rattle.dpe_replay.specs.Words.{texts, mode_of, IsPath};
 
 use crate::audit::{End, Task, audit_journal};
 use crate::listing::Choice;
 use crate::seed::{SeedFile, read_seed};
 use crate::verdict::View;
-use crate::words::{Request, read_words};
+use crate::words::{Answer, Request, read_words};
 use dpe_io::{Failed, Shelf, Sink};
 use dpe_journal::Records;
 use std::alloc::Global;
@@ -146,8 +147,9 @@ pub fn replay_main<F: Shelf, O: Sink>(
 ) -> u8
     ensures statuses { IsStatus result }
 
-    // 2: exactly where the words aren't of a form. No file is opened then, and nothing printed.
-    ensures words { (result ≡ 2) ↔ HasNoRequest (texts words.now) }
+    // 2: exactly where the words aren't of a form, but for want of memory. No file is opened then, and nothing printed.
+    ensures words { result ≡ 2 → HasNoRequest (texts words.now) }
+    ensures no_request { HasNoRequest (texts words.now) → (result ≡ 2) ⊎ ((result ≡ 3) × AllByRecursion IsPath (texts words.now)) }
     ensures untouched { result ≡ 2 → (shelf.new ≡ shelf.old) × (out.new ≡ out.old) }
 
     // 0: the journal is whole, and legal where replies are compared. Its text was printed.
@@ -175,9 +177,9 @@ pub fn replay_main<F: Shelf, O: Sink>(
         × HasWrongSize F.File.left F.File.faults (F.files shelf.old) (F.files shelf.new)) }
     ensures silent { result ≡ 8 → out.new ≡ out.old }
 
-    // 3: memory is wanted, when just the header was taken of the journal. Nothing was printed.
-    ensures no_memory { result ≡ 3 → ForRequest (texts words.now) (λ mode. Replays F.File.left F.File.faults mode
-        (F.files shelf.old) (F.files shelf.new) (O.bytes out.old) (O.bytes out.new) End.NoMemory) }
+    // 3: memory is wanted, before a file is opened, or when just the header was taken of the journal. Nothing was printed.
+    ensures no_memory { result ≡ 3 → (shelf.new ≡ shelf.old) ⊎ ForRequest (texts words.now) (λ mode. Replays
+        F.File.left F.File.faults mode (F.files shelf.old) (F.files shelf.new) (O.bytes out.old) (O.bytes out.new) End.NoMemory) }
     ensures nothing_printed { result ≡ 3 → out.new ≡ out.old }
 
     // The output's count rose just at 7, and a count of the files at 4, and else only at 7.
@@ -192,12 +194,13 @@ pub fn replay_main<F: Shelf, O: Sink>(
         → FilesFaultless (F.files shelf.old) (F.files shelf.new) → (Rose (O.faults out.old) (O.faults out.new) → ⊥)
         → (result ≡ status_of finding) ⊎ (result ≡ 3) }
 
-    // Right words, a seed of another length, and no fault: 8.
+    // Right words, a seed of another length, and no fault: 8, or 3.
     ensures no_seed { ExpectsNoSeed F.File.left (texts words.now) (F.files shelf.old).unopened
-        → FilesFaultless (F.files shelf.old) (F.files shelf.new) → result ≡ 8 }
+        → FilesFaultless (F.files shelf.old) (F.files shelf.new) → (result ≡ 8) ⊎ (result ≡ 3) }
 {
-    let Some(request) = read_words(words) else {
-        return 2;
-    };
-    status_of_end(run(alloc, request, shelf, out))
+    match read_words(alloc, words) {
+        Answer::Request(request) => status_of_end(run(alloc, request, shelf, out)),
+        Answer::NoForm => 2,
+        Answer::NoMemory => 3,
+    }
 }

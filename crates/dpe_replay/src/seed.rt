@@ -1,6 +1,6 @@
 //! The seed in its file.
 ghost use Rattle.std.specs.Prelude.{◌≡◌, take};
-ghost use Rattle.dpe_replay.specs.Shelves.{ReadsSeed, GivesSeed, HasSeedCause};
+ghost use Rattle.dpe_replay.specs.Shelves.{ReadsSeed, GivesSeed, HasSeedCause, TakesFew};
 
 use dpe_io::{Failed, Shelf, Source};
 use dpe_link::fill;
@@ -34,6 +34,7 @@ fn front_of(room: &[u8; ROOM_SIZE]) -> [u8; SEED_SIZE]
 // Reads at most 33 bytes.
 fn take_seed<S: Source>(source: &mut S) -> SeedFile
     ensures gives { GivesSeed (S.left source.old) result }
+    ensures few { TakesFew (S.left source.old) (S.left source.new) }
     ensures cause { HasSeedCause (S.faults source.old) (S.faults source.new) result }
 {
     let mut room = [0; ROOM_SIZE];

@@ -1,5 +1,5 @@
 use crate::replay::replay_main;
-use dpe_io::{MemShelf, MemSink, MemSource};
+use dpe_io::{Failed, MemShelf, MemSink, MemSource, Shelf};
 use std::alloc::Global;
 use std::test::Fail;
 
@@ -59,6 +59,49 @@ const NONE: Failing<'static> = Failing {
     out: &[],
 };
 
+// Words of each form.
+const JUDGING: [&[&str]; 2] = [&["check", "s", "j"], &["live", "s", "j"]];
+
+const LISTING: [&[&str]; 2] = [&["list", "j"], &["connection", "j", "7", "0"]];
+
+// A shelf that keeps the paths that it was asked for, with a line feed behind each.
+#[derive(Drop)]
+struct Asked {
+    shelf: MemShelf,
+    paths: Vec<u8>,
+}
+
+impl Shelf for Asked {
+    type File = MemSource;
+
+    ghost files = { λ s. s.shelf.files };
+
+    fn file(&mut self, path: &str) -> Result<MemSource, Failed> {
+        let _ = self.paths.extend_from_slice(path.as_bytes());
+        let _ = self.paths.push(b'\n');
+        self.shelf.file(path)
+    }
+
+    fn take_file(&mut self, place: u32, file: MemSource) {
+        self.shelf.take_file(place, file)
+    }
+}
+
+// A shelf of these files.
+fn shelf_of(
+    alloc: Global,
+    seed: Option<&[u8]>,
+    journal: &[u8],
+    failing: Failing<'_>,
+) -> Result<MemShelf, Fail> {
+    let mut files = Vec::new(alloc);
+    if let Some(seed) = seed {
+        files.push(MemSource::new(alloc, seed, 10, failing.seed)?)?;
+    }
+    files.push(MemSource::new(alloc, journal, 1000, failing.journal)?)?;
+    Ok(MemShelf::new(alloc, files, failing.openings)?)
+}
+
 // What an audit answers and prints, over a shelf of these files.
 fn audit(
     alloc: Global,
@@ -67,12 +110,7 @@ fn audit(
     journal: &[u8],
     failing: Failing<'_>,
 ) -> Result<(u8, Vec<u8>), Fail> {
-    let mut files = Vec::new(alloc);
-    if let Some(seed) = seed {
-        files.push(MemSource::new(alloc, seed, 10, failing.seed)?)?;
-    }
-    files.push(MemSource::new(alloc, journal, 1000, failing.journal)?)?;
-    let mut shelf = MemShelf::new(alloc, files, failing.openings)?;
+    let mut shelf = shelf_of(alloc, seed, journal, failing)?;
     let mut out = MemSink::new(alloc, 4096, 16, failing.out)?;
     let status = replay_main(alloc, words, &mut shelf, &mut out);
     Ok((status, Vec::from_slice(alloc, out.bytes())?))
@@ -248,21 +286,56 @@ fn faulty_words_open_nothing(rt: HostRuntime) -> Result<(), Fail> {
     Ok(())
 }
 
+// The paths that an audit asks for.
+fn paths_asked(
+    alloc: Global,
+    words: &[&str],
+    seed: Option<&[u8]>,
+    journal: &[u8],
+) -> Result<Vec<u8>, Fail> {
+    let mut shelf = Asked {
+        shelf: shelf_of(alloc, seed, journal, NONE)?,
+        paths: Vec::new(alloc),
+    };
+    let mut out = MemSink::new(alloc, 4096, 4096, &[])?;
+    let _ = replay_main(alloc, words, &mut shelf, &mut out);
+    Ok(Vec::from_slice(alloc, &shelf.paths)?)
+}
+
+#[test]
+fn each_path_is_asked_for_in_its_place(rt: HostRuntime) -> Result<(), Fail> {
+    let journal = profiles(rt.alloc(), 1)?;
+    for words in JUDGING {
+        let paths = paths_asked(rt.alloc(), words, Some(&SEED), &journal)?;
+        assert_eq!(rt; paths.as_slice(), b"s\nj\n".as_slice());
+    }
+    for words in LISTING {
+        let paths = paths_asked(rt.alloc(), words, None, &journal)?;
+        assert_eq!(rt; paths.as_slice(), b"j\n".as_slice());
+    }
+    Ok(())
+}
+
 #[test]
 fn each_opening_that_fails_is_told(rt: HostRuntime) -> Result<(), Fail> {
     let journal = profiles(rt.alloc(), 1)?;
-    for call in [0, 1] {
+    for words in JUDGING {
+        for call in [0, 1] {
+            let failing = Failing {
+                openings: &[call],
+                ..NONE
+            };
+            let (status, text) = audit(rt.alloc(), words, Some(&SEED), &journal, failing)?;
+            assert_eq!(rt; status, 4);
+            assert!(rt; text.is_empty());
+        }
+    }
+    for words in LISTING {
         let failing = Failing {
-            openings: &[call],
+            openings: &[0],
             ..NONE
         };
-        let (status, text) = audit(
-            rt.alloc(),
-            &["check", "s", "j"],
-            Some(&SEED),
-            &journal,
-            failing,
-        )?;
+        let (status, text) = audit(rt.alloc(), words, None, &journal, failing)?;
         assert_eq!(rt; status, 4);
         assert!(rt; text.is_empty());
     }
@@ -291,48 +364,87 @@ fn each_read_of_the_seed_that_fails_is_told(rt: HostRuntime) -> Result<(), Fail>
     Ok(())
 }
 
-#[test]
-fn each_read_of_the_journal_that_fails_is_told(rt: HostRuntime) -> Result<(), Fail> {
-    let journal = profiles(rt.alloc(), 1)?;
-    let mut told = 0;
-    for call in [0, 1, 2, 3, 4, 5, 6, 7, 8, 9, 10, 11] {
+// How many reads of the journal, from the first on, give 4 and a front of these lines where they fail; and the status where
+// the next one is to fail.
+fn told_reads(
+    alloc: Global,
+    words: &[&str],
+    seed: Option<&[u8]>,
+    journal: &[u8],
+    lines: &[u8],
+) -> Result<(u32, u8), Fail> {
+    for call in 0..100u32 {
         let failing = Failing {
             journal: &[call],
             ..NONE
         };
-        let (status, text) = audit(rt.alloc(), &["list", "j"], None, &journal, failing)?;
-        if status == 4 {
-            assert!(rt; text.is_empty() || text.as_slice() == b"0 7 0 0 0 1 0\n".as_slice());
-            assert_eq!(rt; told, call);
-            told = call + 1;
-        } else {
-            assert_eq!(rt; status, 0);
+        let (status, text) = audit(alloc, words, seed, journal, failing)?;
+        if status != 4 || !lines.starts_with(&text) {
+            return Ok((call, status));
         }
     }
-    // the header, the record, the end, and what is behind it
-    assert!(rt; told >= 4);
-    Ok(())
+    Ok((100, 4))
 }
 
 #[test]
-fn each_call_of_the_output_that_fails_is_told(rt: HostRuntime) -> Result<(), Fail> {
+fn each_read_of_the_journal_that_fails_is_told(rt: HostRuntime) -> Result<(), Fail> {
+    let journal = initialized(rt.alloc())?;
+    for words in JUDGING {
+        let (told, status) = told_reads(rt.alloc(), words, Some(&SEED), &journal, b"")?;
+        // the header, two records, the end, and what is behind it
+        assert!(rt; told >= 5);
+        assert_eq!(rt; status, 0);
+    }
     let journal = profiles(rt.alloc(), 1)?;
-    // two writes of the 28 bytes, and the flush
-    for call in [0, 1, 2] {
+    let line: &[u8] = b"0 7 0 0 0 1 0\n";
+    let (told, status) = told_reads(rt.alloc(), &["list", "j"], None, &journal, line)?;
+    assert!(rt; told >= 4);
+    assert_eq!(rt; status, 0);
+    Ok(())
+}
+
+// How many calls of the output, from the first on, give 7 and a front of the text where they fail; and the status where the
+// next one is to fail.
+fn told_writes(
+    alloc: Global,
+    words: &[&str],
+    seed: Option<&[u8]>,
+    journal: &[u8],
+) -> Result<(u32, u8), Fail> {
+    let (_, whole) = audit(alloc, words, seed, journal, NONE)?;
+    for call in 0..100u32 {
         let failing = Failing {
             out: &[call],
             ..NONE
         };
-        let (status, text) = audit(
-            rt.alloc(),
-            &["check", "s", "j"],
-            Some(&SEED),
-            &journal,
-            failing,
-        )?;
-        assert_eq!(rt; status, 7);
-        assert!(rt; b"entries 1\nrefused 0\nlive 0\n".starts_with(&text));
+        let (status, text) = audit(alloc, words, seed, journal, failing)?;
+        if status != 7 || !whole.starts_with(&text) {
+            return Ok((call, status));
+        }
     }
+    Ok((100, 7))
+}
+
+#[test]
+fn each_call_of_the_output_that_fails_is_told(rt: HostRuntime) -> Result<(), Fail> {
+    // writes of at most 16 bytes, and the flush
+    let journal = initialized(rt.alloc())?;
+    let check = told_writes(rt.alloc(), &["check", "s", "j"], Some(&SEED), &journal)?;
+    assert!(rt; check == (3, 0));
+    let live = told_writes(rt.alloc(), &["live", "s", "j"], Some(&SEED), &journal)?;
+    assert!(rt; live == (4, 0));
+    let mut journal = profiles(rt.alloc(), 1)?;
+    let list = told_writes(rt.alloc(), &["list", "j"], None, &journal)?;
+    assert!(rt; list == (2, 0));
+    let replies = told_writes(rt.alloc(), &["connection", "j", "7", "0"], None, &journal)?;
+    assert!(rt; replies == (6, 0));
+    assert!(rt; journal.len() > END);
+    journal[END - 1] = 0x11;
+    let other = told_writes(rt.alloc(), &["check", "s", "j"], Some(&SEED), &journal)?;
+    assert!(rt; other == (12, 12));
+    journal[END] = 0x02;
+    let cut = told_writes(rt.alloc(), &["list", "j"], None, &journal)?;
+    assert!(rt; cut == (4, 11));
     Ok(())
 }
 
