@@ -1,5 +1,9 @@
 pub mod Calls
+pub mod Gathering
+pub mod Gating
 pub mod Growing
+pub mod Hiring
+pub mod Naming
 pub mod Observing
 pub mod Outputs
 pub mod Serving
@@ -7,3 +11,13 @@ pub mod StepLemmas
 pub mod Stopping
 pub mod Visiting
 pub mod Working
+pub mod Settings
+pub mod Lent
+pub mod Posting
+pub mod Lendings
+pub mod Outcomes
+pub mod Running
+pub mod Rising
+pub mod Statuses
+pub mod Summing
+pub mod Smallest

@@ -1,6 +1,8 @@
 pub mod Conn
+pub mod Crews
 pub mod Drawn
 pub mod Endings
+pub mod Gates
 pub mod Observed
 pub mod Passes
 pub mod Served
@@ -8,3 +10,14 @@ pub mod Steps
 pub mod Turns
 pub mod ServedBy
 pub mod Workers
+pub mod Lending
+pub mod Setting
+pub mod Seeds
+pub mod Summary
+pub mod Headline
+pub mod StatusCauses
+pub mod Words
+pub mod Openings
+pub mod Closings
+pub mod Outcomes
+pub mod Smallest

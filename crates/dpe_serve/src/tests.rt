@@ -1,6 +1,9 @@
 ghost use Rattle.std.specs.Prelude.{◌≡◌, ◌≤◌, All, IfOk};
 ghost use Rattle.dpe_io.specs.Memory.{IsFaultless};
 
+mod gate;
+mod server;
+
 use crate::{End, Room, Tally, Worker, serve_connection, serve_worker};
 use dpe_desk::Desk;
 use dpe_io::{MemConn, MemDoor, MemEntropy, MemSink, MemSource};
