@@ -11,9 +11,9 @@ use Rattle.dpe_desk.specs.Views.{Sound}
 use Rattle.dpe_desk.proofs.Lists.{times_append, made_by_append}
 use Rattle.dpe_journal.specs.Shared.{Shared, IsLegalFor}
 use Rattle.dpe_serve.specs.Crews.{BookDesk, IsDone, IsWithin, Gathers, Joins, post_of}
-use Rattle.dpe_serve.specs.Passes.{Seat}
+use Rattle.dpe_connections.specs.Passes.{Seat}
 use Rattle.dpe_serve.specs.declared.crew.Post.{Post}
-use Rattle.dpe_serve.specs.declared.worker.Worker.{Worker}
+use Rattle.dpe_connections.specs.declared.worker.Worker.{Worker}
 
 still_full : (a b : Option ℕ) → a ≢ None → either_of a b ≢ None
 still_full None b h = λ e. h refl

@@ -7,21 +7,21 @@ use Rattle.dpe_desk.specs.Entries.{made_by, times}
 use Rattle.dpe_desk.specs.Passes.{LaterCallers, own_name}
 use Rattle.dpe_model.specs.History.{Entry, entries_of_caller, entries_of_connection}
 use Rattle.dpe_journal.specs.Shared.{shared_from}
-use Rattle.dpe_serve.specs.Conn.{Conn}
+use Rattle.dpe_connections.specs.Conn.{Conn}
 use Rattle.dpe_serve.specs.Crews.{BookDesk, IsHired, Works, IsDone, IsWithin, Gathers, post_of}
-use Rattle.dpe_serve.specs.Drawn.{Random, Draws}
-use Rattle.dpe_serve.specs.Endings.{is_told_full}
+use Rattle.dpe_connections.specs.Drawn.{Random, Draws}
+use Rattle.dpe_connections.specs.Endings.{is_told_full}
 use Rattle.dpe_serve.specs.Gates.{Entrance, Gate, AreGates, AreNames, ServedGate, OneHistory, Serve}
-use Rattle.dpe_serve.specs.Passes.{Seat, history_of, entries_on, made_on}
-use Rattle.dpe_serve.specs.Served.{Served}
-use Rattle.dpe_serve.specs.Workers.{Visit, IsFrom, AllServed, QuietOnceFull, ended}
+use Rattle.dpe_connections.specs.Passes.{Seat, history_of, entries_on, made_on}
+use Rattle.dpe_connections.specs.Served.{Served}
+use Rattle.dpe_connections.specs.Workers.{Visit, IsFrom, AllServed, QuietOnceFull, ended}
 use Rattle.dpe_serve.specs.declared.crew.Post.{Post}
-use Rattle.dpe_serve.specs.declared.worker.Tally.{Tally}
-use Rattle.dpe_serve.specs.declared.worker.Worker.{Worker}
+use Rattle.dpe_connections.specs.declared.worker.Tally.{Tally}
+use Rattle.dpe_connections.specs.declared.worker.Worker.{Worker}
 use Rattle.dpe_serve.proofs.Gathering.{one_time}
 use Rattle.dpe_serve.proofs.Hiring.{Ran, is_done}
 use Rattle.dpe_serve.proofs.Naming.{are_names, callers_named, of_name, on_number}
-use Rattle.dpe_serve.proofs.Working.{seen_is_made}
+use Rattle.dpe_connections.proofs.Working.{seen_is_made}
 
 -- ## Other entries that are the same
 

@@ -5,13 +5,13 @@ use Rattle.std.proofs.Math.Seq.{take-append_seam}
 use Rattle.std.specs.List.{AllByRecursion, AllZip}
 use Rattle.dpe_desk.specs.Passes.{own_name, first_of}
 use Rattle.dpe_desk.specs.Plays.{given}
-use Rattle.dpe_serve.specs.Conn.{Conn}
+use Rattle.dpe_connections.specs.Conn.{Conn}
 use Rattle.dpe_serve.specs.Crews.{BookDesk, IsReady, IsHired, Works, IsDone}
-use Rattle.dpe_serve.specs.Drawn.{Random}
+use Rattle.dpe_connections.specs.Drawn.{Random}
 use Rattle.dpe_serve.specs.Gates.{Entrance}
-use Rattle.dpe_serve.specs.Passes.{Seat}
+use Rattle.dpe_connections.specs.Passes.{Seat}
 use Rattle.dpe_serve.specs.declared.crew.Post.{Post}
-use Rattle.dpe_serve.specs.declared.worker.Worker.{Worker}
+use Rattle.dpe_connections.specs.declared.worker.Worker.{Worker}
 use Rattle.dpe_serve.proofs.Naming.{made_alone}
 
 -- ## Lists side by side

@@ -1,16 +1,7 @@
-pub mod Calls
 pub mod Gathering
 pub mod Gating
-pub mod Growing
 pub mod Hiring
 pub mod Naming
-pub mod Observing
-pub mod Outputs
-pub mod Serving
-pub mod StepLemmas
-pub mod Stopping
-pub mod Visiting
-pub mod Working
 pub mod Settings
 pub mod Lent
 pub mod Posting

@@ -9,9 +9,9 @@ use Rattle.dpe_desk.specs.Passes.{LaterCallers}
 use Rattle.dpe_model.specs.History.{Entry, entries_of_caller, entries_of_connection}
 use Rattle.dpe_journal.specs.Shared.{Shared, shared_from, entry_in}
 use Rattle.dpe_serve.specs.Gates.{AreNames}
-use Rattle.dpe_serve.specs.Passes.{history_of}
-use Rattle.dpe_serve.specs.Workers.{IsFrom}
-use Rattle.dpe_serve.proofs.Calls.{of_caller, on_connection}
+use Rattle.dpe_connections.specs.Passes.{history_of}
+use Rattle.dpe_connections.specs.Workers.{IsFrom}
+use Rattle.dpe_connections.proofs.Calls.{of_caller, on_connection}
 
 -- ## Different names
 

@@ -29,7 +29,7 @@ use Rattle.dpe_serve.specs.declared.serve.Outcome.{Outcome}
 use Rattle.dpe_serve.specs.declared.serve.Outcome.TheVariants as outcomes
 use Rattle.dpe_serve.specs.declared.serve.Served.{Served}
 use Rattle.dpe_serve.specs.declared.summary.Totals.{Totals}
-use Rattle.dpe_serve.specs.declared.worker.Tally.{Tally}
+use Rattle.dpe_connections.specs.declared.worker.Tally.{Tally}
 use Rattle.dpe_serve.proofs.Lendings.{lends_all, lends_until}
 use Rattle.dpe_serve.proofs.Lent.{lends_one, returns_more, placed_more}
 

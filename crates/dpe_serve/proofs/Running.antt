@@ -14,9 +14,9 @@ use Rattle.dpe_model.specs.History.{Entry, Legal}
 use Rattle.dpe_model.specs.Laws.{FoldedInputs, HandleLaws}
 use Rattle.dpe_text.specs.Writing.{AppendsFront}
 use Rattle.dpe_serve.specs.Closings.{HandsBackWhole, HandsBackPart}
-use Rattle.dpe_serve.specs.Conn.{Conn}
+use Rattle.dpe_connections.specs.Conn.{Conn}
 use Rattle.dpe_serve.specs.Crews.{IsNear}
-use Rattle.dpe_serve.specs.Drawn.{Random}
+use Rattle.dpe_connections.specs.Drawn.{Random}
 use Rattle.dpe_serve.specs.Gates.{Entrance, Gate, AreGates, OneHistory, Serve}
 use Rattle.dpe_serve.specs.Headline.{ServiceView, HouseView, Tells, GatesOf, ServesDoors, Serves, ServesNone, Unopened, EntropyUnopened, DoorUnopened, JournalUnopened, WritesWhole, WritesPart}
 use Rattle.dpe_serve.specs.Headline.{IsOpened, any_failed, ForSeed, door_faults, entropy_faults, ServesOneHistory, ServesUnprinted, ServesInPart, FailsToServe, FailsToWrite, NothingOpened}
@@ -32,7 +32,7 @@ use Rattle.dpe_serve.specs.declared.serve.Outcome.{Outcome}
 use Rattle.dpe_serve.specs.declared.serve.Outcome.TheVariants as outcomes
 use Rattle.dpe_serve.specs.declared.serve.Served.{Served}
 use Rattle.dpe_serve.specs.declared.summary.Totals.{Totals}
-use Rattle.dpe_serve.specs.declared.worker.Tally.{Tally}
+use Rattle.dpe_connections.specs.declared.worker.Tally.{Tally}
 use Rattle.dpe_serve.proofs.Lendings.{lends_all, lends_until, until_out}
 use Rattle.dpe_serve.proofs.Lent.{lends_one, returns_more, placed_more}
 

@@ -6,17 +6,17 @@ use Rattle.dpe_journal.specs.Journal.{journal_bytes}
 use Rattle.dpe_link.specs.Frames.{Frames}
 use Rattle.dpe_model.specs.History.{Legal}
 use Rattle.dpe_model.specs.Laws.{FoldedInputs, HandleLaws}
-use Rattle.dpe_serve.specs.Conn.{Conn}
-use Rattle.dpe_serve.specs.Drawn.{Random}
-use Rattle.dpe_serve.specs.Endings as endings
+use Rattle.dpe_connections.specs.Conn.{Conn}
+use Rattle.dpe_connections.specs.Drawn.{Random}
+use Rattle.dpe_connections.specs.Endings as endings
 use Rattle.dpe_serve.specs.Gates.{Entrance, Gate, OneHistory, ServedGate}
 use Rattle.dpe_serve.specs.Headline.{ServesDoors, WritesWhole, ServesOneHistory}
 use Rattle.dpe_serve.specs.Lending.{Lends, LendsAll, LendsOne, HaveFault}
 use Rattle.dpe_serve.specs.Seeds.{HasSeed}
-use Rattle.dpe_serve.specs.Served.{Served}
+use Rattle.dpe_connections.specs.Served.{Served}
 use Rattle.dpe_serve.specs.Setting.{Spell, words_of}
 use Rattle.dpe_serve.specs.Smallest.{setting, seed, conn, opened, closed, entropy, one_back, tells, before, after, printed, HeadlineIsMet}
-use Rattle.dpe_serve.specs.Workers.{Visit}
+use Rattle.dpe_connections.specs.Workers.{Visit}
 
 module _ {T : Type 0} (faults : T → ℕ) (x y : T) (places : List ℕ) (none : faults y ≡ 0) where
   no_fault : HaveFault faults (y ∷ []) → ⊥

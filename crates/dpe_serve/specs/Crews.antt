@@ -11,13 +11,13 @@ use Rattle.dpe_desk.specs.Views.{Sound}
 use Rattle.dpe_journal.specs.BookViews.{BookView}
 use Rattle.dpe_journal.specs.Entries.{Sent}
 use Rattle.dpe_journal.specs.Shared.{IsLegalFor}
-use Rattle.dpe_serve.specs.Conn.{Conn}
-use Rattle.dpe_serve.specs.Drawn.{Random}
+use Rattle.dpe_connections.specs.Conn.{Conn}
+use Rattle.dpe_connections.specs.Drawn.{Random}
 use Rattle.dpe_serve.specs.Gates.{Entrance}
-use Rattle.dpe_serve.specs.Passes.{Seat, history_of}
-use Rattle.dpe_serve.specs.Workers.{IsFrom, ServesDoor}
-use Rattle.dpe_serve.specs.declared.worker.Tally.{Tally}
-use Rattle.dpe_serve.specs.declared.worker.Worker.{Worker}
+use Rattle.dpe_connections.specs.Passes.{Seat, history_of}
+use Rattle.dpe_connections.specs.Workers.{IsFrom, ServesDoor}
+use Rattle.dpe_connections.specs.declared.worker.Tally.{Tally}
+use Rattle.dpe_connections.specs.declared.worker.Worker.{Worker}
 use Rattle.dpe_serve.specs.declared.crew.Post.{Post}
 
 abbrev pub BookDesk : Type 0

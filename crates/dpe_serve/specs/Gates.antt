@@ -5,11 +5,11 @@ use Rattle.std.specs.List.{AllByRecursion}
 use Rattle.dpe_io.specs.Causes.{Rose}
 use Rattle.dpe_io.specs.Told.{IfTold, Lists, NoneWaits}
 use Rattle.dpe_model.specs.History.{Entry, entries_of_caller, entries_of_connection}
-use Rattle.dpe_serve.specs.Conn.{Conn}
-use Rattle.dpe_serve.specs.Drawn.{Random, Draws}
-use Rattle.dpe_serve.specs.Endings.{is_told_full, is_full, is_cut, is_entropy_fault}
-use Rattle.dpe_serve.specs.Workers.{Visit, IsFrom, RoseBy, GoThrough, IsFaultless, AllServed, QuietOnceFull, ended}
-use Rattle.dpe_serve.specs.declared.worker.Tally.{Tally}
+use Rattle.dpe_connections.specs.Conn.{Conn}
+use Rattle.dpe_connections.specs.Drawn.{Random, Draws}
+use Rattle.dpe_connections.specs.Endings.{is_told_full, is_full, is_cut, is_entropy_fault}
+use Rattle.dpe_connections.specs.Workers.{Visit, IsFrom, RoseBy, GoThrough, IsFaultless, AllServed, QuietOnceFull, ended}
+use Rattle.dpe_connections.specs.declared.worker.Tally.{Tally}
 use Rattle.dpe_serve.specs.declared.crew.Post.{Post}
 
 -- what a door tells: its connections, where it tells them, its count of faults, and how many connections are out

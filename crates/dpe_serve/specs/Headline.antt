@@ -7,8 +7,8 @@ use Rattle.dpe_io.specs.Told.{Kind, OpensNone}
 use Rattle.dpe_journal.specs.Journal.{journal_bytes}
 use Rattle.dpe_model.specs.History.{Entry, Legal}
 use Rattle.dpe_model.specs.Laws.{FoldedInputs, HandleLaws}
-use Rattle.dpe_serve.specs.Conn.{Conn}
-use Rattle.dpe_serve.specs.Drawn.{Random}
+use Rattle.dpe_connections.specs.Conn.{Conn}
+use Rattle.dpe_connections.specs.Drawn.{Random}
 use Rattle.dpe_serve.specs.Gates.{Entrance, Gate, OneHistory}
 use Rattle.dpe_serve.specs.Lending.{LendsOne, LendsAll, LendsUntil}
 use Rattle.dpe_serve.specs.Seeds.{HasSeed, HasWrongSize, HasNoSeed}

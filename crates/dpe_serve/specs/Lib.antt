@@ -1,15 +1,5 @@
-pub mod Conn
 pub mod Crews
-pub mod Drawn
-pub mod Endings
 pub mod Gates
-pub mod Observed
-pub mod Passes
-pub mod Served
-pub mod Steps
-pub mod Turns
-pub mod ServedBy
-pub mod Workers
 pub mod Lending
 pub mod Setting
 pub mod Seeds

@@ -2,8 +2,8 @@
 use Rattle.std.specs.Prelude.{ℕ, List, [], ◌∷◌, replicate, codes, Option, Some, length, false}
 use Rattle.dpe_io.specs.Told.{Kind, all_unopened}
 use Rattle.dpe_journal.specs.Journal.{journal_bytes}
-use Rattle.dpe_serve.specs.Conn.{Conn}
-use Rattle.dpe_serve.specs.Drawn.{Random}
+use Rattle.dpe_connections.specs.Conn.{Conn}
+use Rattle.dpe_connections.specs.Drawn.{Random}
 use Rattle.dpe_serve.specs.Gates.{Entrance}
 use Rattle.dpe_serve.specs.Headline.{HouseView, Tells, Headline}
 use Rattle.dpe_serve.specs.Setting.{Setting, words_of}

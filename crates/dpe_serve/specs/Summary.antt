@@ -3,7 +3,7 @@ use Rattle.std.specs.Prelude.{ℕ, List, ◌++◌, not, length, codes, count_by,
 use Rattle.std.specs.Fmt.{decimal}
 use Rattle.dpe_model.specs.History.{Entry, is_accepted}
 use Rattle.dpe_serve.specs.declared.summary.Totals.{Totals}
-use Rattle.dpe_serve.specs.declared.worker.Tally.{Tally}
+use Rattle.dpe_connections.specs.declared.worker.Tally.{Tally}
 
 -- how many entries have a reply of another code than 0
 abbrev pub refused_of : List Entry → ℕ

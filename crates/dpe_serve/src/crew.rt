@@ -7,13 +7,12 @@ ghost use Rattle.dpe_desk.specs.Plays.{given};
 ghost use Rattle.dpe_desk.specs.Views.{held};
 ghost use Rattle.dpe_model.specs.History.{Legal};
 ghost use Rattle.dpe_model.specs.Laws.{FoldedInputs, HandleLaws};
-ghost use Rattle.dpe_serve.specs.Conn.{told_by};
-ghost use Rattle.dpe_serve.specs.Drawn.{random_by};
+ghost use Rattle.dpe_connections.specs.Conn.{told_by};
+ghost use Rattle.dpe_connections.specs.Drawn.{random_by};
 ghost use Rattle.dpe_serve.specs.Crews.{IsReady, IsHired, Works, IsNear, IsDone, Joins, Gathers, post_of};
 ghost use Rattle.dpe_serve.specs.Gates.{entrance_by, Serve};
 
-use crate::room::Room;
-use crate::worker::{Tally, Worker, serve_worker};
+use dpe_connections::{Room, Tally, Worker, serve_worker};
 use dpe_desk::{Desk, Pass};
 use dpe_io::{Door, Entropy};
 use dpe_journal::Book;

@@ -8,9 +8,8 @@ ghost use Rattle.dpe_serve.specs.Setting.{texts};
 ghost use Rattle.dpe_serve.specs.Words.{SpellsIts, door_of};
 
 use crate::crew::Post;
-use crate::room::Room;
 use crate::setting::{DoorWord, read_door};
-use crate::worker::Tally;
+use dpe_connections::{Room, Tally};
 use dpe_io::{Failed, House};
 
 // Takes the first of a list.

@@ -2,7 +2,7 @@
 ghost use Rattle.std.specs.Prelude.{All, IfOk};
 ghost use Rattle.dpe_io.specs.Memory.{IsFaultless, IsUnused};
 
-use super::{COMMAND, JOURNAL_FULL, Line, NO_COMMAND, REPLY, commands, connect, replies};
+use super::{COMMAND, JOURNAL_FULL, NO_COMMAND, REPLY, commands, replies};
 use crate::serve_main;
 use dpe_io::{MemConn, MemDoor, MemEntropy, MemHouse, MemSink, MemSource};
 use std::alloc::{AllocError, Global};
@@ -63,16 +63,13 @@ const NONE_FAILS: Failing<'static> = Failing {
     out: &[],
 };
 
+// A connection that sends these bytes.
 fn conn_of(alloc: Global, sent: &[u8]) -> Result<MemConn, AllocError>
     ensures { IfOk result IsFaultless }
 {
-    let line = Line {
-        bytes: sent,
-        piece: 7,
-        reads: &[],
-        writes: &[],
-    };
-    connect(alloc, &line)
+    let source = MemSource::new(alloc, sent, 7, &[])?;
+    let sink = MemSink::new(alloc, 9_000, 9_000, &[])?;
+    Ok(MemConn::new(source, sink))
 }
 
 // A door with one connection that sends these bytes.

@@ -2,7 +2,7 @@ use Rattle.std.proofs.Common.{◌≡◌, ◌<◌, ◌≤◌, ◌+◌, ℕ, List,
 use Rattle.std.specs.List.{AllByRecursion}
 use Rattle.dpe_desk.specs.Entries.{times}
 use Rattle.dpe_serve.specs.Crews.{IsDone}
-use Rattle.dpe_serve.specs.declared.worker.Worker.{Worker}
+use Rattle.dpe_connections.specs.declared.worker.Worker.{Worker}
 use Rattle.dpe_serve.proofs.Gathering.{gathering_none, gathering_more, gathering_done}
 use Rattle.dpe_serve.proofs.crew.dismiss_all.Goals as goal
 

@@ -1,11 +1,11 @@
 use Rattle.std.proofs.Common.{◌≡◌, ℕ, List, [], ◌∷◌, ◌++◌, refl, ap, sym, subst, ◌∙◌, arith, length, drop}
 use Rattle.std.specs.Prelude.{All}
 use Rattle.std.specs.List.{AllZip}
-use Rattle.dpe_serve.specs.Conn.{told_by}
+use Rattle.dpe_connections.specs.Conn.{told_by}
 use Rattle.dpe_serve.specs.Crews.{IsReady, Works}
-use Rattle.dpe_serve.specs.Drawn.{random_by}
+use Rattle.dpe_connections.specs.Drawn.{random_by}
 use Rattle.dpe_serve.specs.Gates.{entrance_by}
-use Rattle.dpe_serve.specs.declared.worker.Worker.{Worker}
+use Rattle.dpe_connections.specs.declared.worker.Worker.{Worker}
 use Rattle.dpe_serve.proofs.Hiring.{written_back, zip_length}
 use Rattle.dpe_serve.proofs.crew.put_to_work.Goals as goal
 

@@ -5,12 +5,12 @@ use Rattle.std.proofs.lemmas.List.{length-map}
 use Rattle.dpe_desk.specs.Passes.{LaterCallers, own_name}
 use Rattle.dpe_journal.specs.Shared.{Shared, shared_from}
 use Rattle.dpe_model.specs.History.{Entry, Legal}
-use Rattle.dpe_serve.specs.Conn.{told_by}
+use Rattle.dpe_connections.specs.Conn.{told_by}
 use Rattle.dpe_serve.specs.Crews.{IsReady, IsHired, Works}
-use Rattle.dpe_serve.specs.Drawn.{random_by}
+use Rattle.dpe_connections.specs.Drawn.{random_by}
 use Rattle.dpe_serve.specs.Gates.{entrance_by}
-use Rattle.dpe_serve.specs.Passes.{Seat}
-use Rattle.dpe_serve.specs.declared.worker.Worker.{Worker}
+use Rattle.dpe_connections.specs.Passes.{Seat}
+use Rattle.dpe_connections.specs.declared.worker.Worker.{Worker}
 use Rattle.dpe_serve.proofs.Gating.{serve_as_one, closes_of}
 use Rattle.dpe_serve.proofs.Hiring.{Ran, all_ready, all_ran, all_done, zip_length}
 use Rattle.dpe_serve.proofs.Naming.{same_history}

@@ -1,10 +1,10 @@
 use Rattle.std.proofs.Common.{◌≡◌, subst}
 use Rattle.std.specs.Prelude.{slice_index_or}
-use Rattle.dpe_serve.specs.Conn.{told_by}
+use Rattle.dpe_connections.specs.Conn.{told_by}
 use Rattle.dpe_serve.specs.Crews.{Works}
-use Rattle.dpe_serve.specs.Drawn.{random_by}
+use Rattle.dpe_connections.specs.Drawn.{random_by}
 use Rattle.dpe_serve.specs.Gates.{entrance_by}
-use Rattle.dpe_serve.specs.declared.worker.Worker.{Worker}
+use Rattle.dpe_connections.specs.declared.worker.Worker.{Worker}
 use Rattle.dpe_serve.proofs.Hiring.{zip_by_index}
 use Rattle.dpe_serve.proofs.crew.work_all.Goals as goal
 

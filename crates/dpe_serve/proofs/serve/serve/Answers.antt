@@ -1,7 +1,7 @@
 use Rattle.std.proofs.Common.{◌≡◌, ℕ, List, sym, subst}
 use Rattle.dpe_io.specs.Told.{Kind}
-use Rattle.dpe_serve.specs.Conn.{told_by}
-use Rattle.dpe_serve.specs.Drawn.{random_by}
+use Rattle.dpe_connections.specs.Conn.{told_by}
+use Rattle.dpe_connections.specs.Drawn.{random_by}
 use Rattle.dpe_serve.specs.Gates.{entrance_by}
 use Rattle.dpe_serve.specs.Headline.{tells_by, service_by}
 use Rattle.dpe_serve.specs.Outcomes.{RunsDoors, RunsNone}

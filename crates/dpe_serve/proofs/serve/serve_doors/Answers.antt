@@ -1,6 +1,6 @@
 use Rattle.std.proofs.Common.{◌≡◌, refl, arith}
-use Rattle.dpe_serve.specs.Conn.{told_by}
-use Rattle.dpe_serve.specs.Drawn.{random_by}
+use Rattle.dpe_connections.specs.Conn.{told_by}
+use Rattle.dpe_connections.specs.Drawn.{random_by}
 use Rattle.dpe_serve.specs.Gates.{entrance_by}
 use Rattle.dpe_serve.specs.Headline.{tells_by}
 use Rattle.dpe_serve.specs.Setting.{texts}

@@ -1,0 +1,9 @@
+pub mod Calls
+pub mod Growing
+pub mod Observing
+pub mod Outputs
+pub mod Serving
+pub mod StepLemmas
+pub mod Stopping
+pub mod Visiting
+pub mod Working

@@ -1,0 +1,10 @@
+pub mod Conn
+pub mod Drawn
+pub mod Endings
+pub mod Observed
+pub mod Passes
+pub mod Served
+pub mod Steps
+pub mod Turns
+pub mod ServedBy
+pub mod Workers

@@ -1,5 +1,0 @@
-use Rattle.dpe_serve.proofs.Observing.{closed_only}
-use Rattle.dpe_serve.proofs.law.closed_where_nothing_failed.Goals as goal
-
-pub returns : goal.returns
-returns c = closed_only
