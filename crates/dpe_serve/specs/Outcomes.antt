@@ -45,7 +45,6 @@ pub record IsRead (s : read.Setting) : Type 0 where
 pub record IsStock {D E C : Type 0} (s : read.Setting) (stock : Stock D E C) : Type 0 where
   pub first : stock.desk.terms.kind.first ≡ s.first
   pub opening : stock.desk.terms.opening ≡ []
-  pub empty : stock.desk.terms.kind.history ≡ []
   pub capacity : stock.desk.terms.capacity ≡ s.entries
   pub belongs : Belongs stock.desk stock.pass × IsFresh stock.pass.view
   pub whole : (stock.pass.view.names ≡ 0 ∷ []) × (stock.pass.view.stake ≡ 65536)
@@ -56,7 +55,6 @@ pub record IsStock {D E C : Type 0} (s : read.Setting) (stock : Stock D E C) : T
 -- posts were opened, of all that was made, and nothing else was used yet; so many doors and entropies are out
 pub record IsOpen {D E C : Type 0} (stock : Stock D E C) (doors_out entropies_out : ℕ) : Type 0 where
   pub opening : stock.desk.terms.opening ≡ []
-  pub empty : stock.desk.terms.kind.history ≡ []
   pub belongs : Belongs stock.desk stock.pass × IsFresh stock.pass.view
   pub whole : (stock.pass.view.names ≡ 0 ∷ []) × (stock.pass.view.stake ≡ 65536)
   pub few : vec_len stock.posts ≤ 16

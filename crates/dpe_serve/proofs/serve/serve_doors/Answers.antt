@@ -18,7 +18,6 @@ serve_posts-requires-clause-open g c lives bounds =
     (g.H.House.entropies c.open_posts.new.house) posts.items c.in-Ok.ensures.opens in
     record {
       opening = s.opening;
-      empty = s.empty;
       belongs = s.belongs;
       whole = s.whole;
       few = omega (arith, number, posts.ok.0, c.requires.read.number);
