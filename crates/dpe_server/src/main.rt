@@ -1,0 +1,34 @@
+//! Serves a DICE Protection Environment over Unix sockets.
+#![tactic(auto)]
+
+use dpe_io::WriteSink;
+use dpe_serve::serve_main;
+use dpe_unix::{NoStart, UnixHouse, program_words};
+use std::process::ExitCode;
+
+// Takes the words, makes the call, and answers its status.
+fn status(rt: HostRuntime) -> Result<u8, NoStart> {
+    let words = program_words(&rt)?;
+    let mut texts = Vec::new(rt.alloc());
+    for word in &words {
+        texts.push(word.as_str())?;
+    }
+    let mut house = UnixHouse::new(rt);
+    let mut out = WriteSink::new(rt.stdout());
+    Ok(serve_main(&rt, rt.alloc(), &texts, &mut house, &mut out))
+}
+
+// Tells a status other than 0 on standard error, and ends with it.
+fn finish(rt: &HostRuntime, status: u8) -> ExitCode {
+    if status != 0 {
+        let _ = eprintln!(rt; "dpe_server: status {status}");
+    }
+    ExitCode::from(status)
+}
+
+fn main(rt: HostRuntime) -> ExitCode {
+    match status(rt) {
+        Ok(status) => finish(&rt, status),
+        Err(fault) => finish(&rt, fault.status()),
+    }
+}
