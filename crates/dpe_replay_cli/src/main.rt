@@ -18,7 +18,9 @@ fn status(rt: HostRuntime) -> Result<u8, NoStart> {
         texts.push(word.as_str())?;
     }
     let mut shelf = FileShelf::new(rt);
-    let output = BufWriter::with_capacity(rt.alloc(), BUFFER_SIZE, rt.stdout())?;
+    let Ok(output) = BufWriter::with_capacity(rt.alloc(), BUFFER_SIZE, rt.stdout()) else {
+        return Err(NoStart::NoMemory);
+    };
     let mut out = WriteSink::new(output);
     Ok(replay_main(rt.alloc(), &texts, &mut shelf, &mut out))
 }

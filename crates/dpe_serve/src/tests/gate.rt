@@ -1,9 +1,4 @@
 //! Two workers that are served at once: each connection gives its second frame only after the other got its first reply.
-ghost use Rattle.std.specs.Prelude.{◌≡◌, ◌<◌, ◌≤◌, IfOk, IfSome, length, if◌then◌else◌};
-ghost use Rattle.std.specs.Io.{ReadsAtMost};
-ghost use Rattle.std.specs.Io.KnownBytes.{ReadConsumes, WriteAppends, Keeps};
-ghost use Rattle.dpe_io.specs.Causes.{HasCause};
-
 use super::{COMMAND, REPLY};
 use crate::serve_main;
 use dpe_io::{Door, Duplex, Failed, House, MemEntropy, MemHouse, MemSink, MemSource, Sink, Source};
@@ -14,7 +9,7 @@ use std::test::*;
 // How often a connection looks whether the other got its reply.
 const MOST_TURNS: u32 = 100_000_000;
 
-// Whether each of two connections got its first reply. The first of them is its own.
+// Whether a connection got its first reply, and whether the other did.
 #[derive(Clone, Copy)]
 struct Replied<'a> {
     own: &'a AtomicU32,

@@ -11,7 +11,22 @@ use std::sync::Wait;
 use std::test::Fail;
 use std::thread::Threads;
 
-const WORDS: [&str; 6] = ["s", "j", "1", "4", "1", "0:p"];
+static WORDS: [&str; 6] = ["s", "j", "1", "4", "1", "0:p"];
+
+// Words with a number or a door word that is out of form.
+static WRONG_WORDS: [[&str; 6]; 8] = [
+    ["s", "j", "0", "4", "1", "0:p"],
+    ["s", "j", "01", "4", "1", "0:p"],
+    ["s", "j", "65536", "4", "1", "0:p"],
+    ["s", "j", "1", "65537", "1", "0:p"],
+    ["s", "j", "1", "4", "18446744073709551616", "0:p"],
+    ["s", "j", "1", "4", "1", "8:p"],
+    ["s", "j", "1", "4", "1", "0:"],
+    ["s", "", "1", "4", "1", "0:p"],
+];
+
+// What is printed where one connection sent one GetProfile.
+static ONE_SERVED: &str = "connections 1\ncommands 1\nrefused 0\nfull 0\ncut 0\n";
 
 // The frame of an InitializeContext.
 static INITIALIZE: [u8; 10] = [0, 0, 0, 6, 0x82, 0x00, 0x43, 0x82, 0x07, 0xa0];
@@ -147,8 +162,7 @@ fn check_server<R: Threads + Wait + Sync + Abort>(
 fn a_command_is_served(rt: HostRuntime) -> Result<(), Fail> {
     let alloc = rt.alloc();
     let mut house = small_house(alloc, &[0; 32], &COMMAND, &NONE_FAILS)?;
-    let printed = "connections 1\ncommands 1\nrefused 0\nfull 0\ncut 0\n";
-    check_server(&rt, alloc, &WORDS, &mut house, 0, printed)?;
+    check_server(&rt, alloc, &WORDS, &mut house, 0, ONE_SERVED)?;
     assert_eq!(rt; got(&house, 0, 0)?, REPLY.as_slice());
     assert_eq!(rt; journal_of(&house)?, ONE_ENTRY.as_slice());
     Ok(())
@@ -213,22 +227,12 @@ fn one_of_two_workers_makes_the_root(rt: HostRuntime) -> Result<(), Fail> {
 fn wrong_words_open_nothing(rt: HostRuntime) -> Result<(), Fail> {
     let alloc = rt.alloc();
     let mut house = small_house(alloc, &[0; 32], &COMMAND, &NONE_FAILS)?;
-    for words in [
-        ["s", "j", "0", "4", "1", "0:p"],
-        ["s", "j", "01", "4", "1", "0:p"],
-        ["s", "j", "65536", "4", "1", "0:p"],
-        ["s", "j", "1", "65537", "1", "0:p"],
-        ["s", "j", "1", "4", "18446744073709551616", "0:p"],
-        ["s", "j", "1", "4", "1", "8:p"],
-        ["s", "j", "1", "4", "1", "0:"],
-        ["s", "", "1", "4", "1", "0:p"],
-    ] {
-        check_server(&rt, alloc, &words, &mut house, 2, "")?;
+    for words in &WRONG_WORDS {
+        check_server(&rt, alloc, words, &mut house, 2, "")?;
     }
     check_server(&rt, alloc, &WORDS[..5], &mut house, 2, "")?;
     // all objects are still there
-    let printed = "connections 1\ncommands 1\nrefused 0\nfull 0\ncut 0\n";
-    check_server(&rt, alloc, &WORDS, &mut house, 0, printed)
+    check_server(&rt, alloc, &WORDS, &mut house, 0, ONE_SERVED)
 }
 
 #[test]
