@@ -1,6 +1,6 @@
 -- What is made of the words, from what a parse of them comes to.
-use Rattle.std.proofs.Common.{◌≡◌, ◌≢◌, ℕ, Bool, ◌<◌, ◌^◌, List, [], ◌∷◌, length, Option, Some, None, Result, Ok, Err, true, false, inl, inr, ◌⊎◌, refl, sym, ap, subst, ◌∙◌, arith, codes, get_or, IfOk, IfErr, IfNone, IfSome}
-use Rattle.std.specs.Prelude.{◌==◌, if◌then◌else◌, slice_index, option_map, map}
+use Rattle.std.proofs.Common.{◌≡◌, ◌≢◌, ℕ, Bool, ◌<◌, ◌^◌, List, [], ◌∷◌, length, Option, Some, None, Result, Ok, Err, true, false, inl, inr, refl, sym, ap, subst, ◌∙◌, arith, codes, IfOk, IfErr, IfNone}
+use Rattle.std.specs.Prelude.{◌==◌, if◌then◌else◌, option_map}
 use Rattle.std.specs.Borrow.{Bor}
 use Rattle.std.specs.Fmt.{decimal}
 use Rattle.std.specs.List.{All, AllByRecursion}
@@ -17,7 +17,7 @@ use Rattle.std.specs.Prelude.{Box}
 use Rattle.std.specs.Box.{box_value}
 use Rattle.clap.specs.Matches.{first_value, subcommand_name_of}
 use Rattle.clap.specs.Walk.{Row, first_of, rows_of}
-use Rattle.clap.specs.Simple.{HasMatchesOf, subcommand_of, subcommand_rows, subcommand_rows_of}
+use Rattle.clap.specs.Simple.{HasMatchesOf, subcommand_rows, subcommand_rows_of}
 use Rattle.clap.specs.Values.{kind_of}
 use Rattle.clap.specs.declared.error.Error.{Error}
 use Rattle.clap.specs.declared.error.kind.ErrorKind.TheVariants as kind
@@ -26,7 +26,7 @@ use Rattle.clap.specs.declared.parser.matches.ArgMatches.TheViews.{out-ArgMatche
 use Rattle.clap.specs.declared.parser.matches.Found.{Found}
 use Rattle.clap.specs.declared.parser.matches.SubCommand.{SubCommand}
 use Rattle.clap.proofs.WalkLemmas.{first_value-rows}
-use Rattle.dpe_replay.specs.Commands.{Asks, AsksOne, AsksThree, AsksTwo, program}
+use Rattle.dpe_replay.specs.Commands.{Asks, AsksThree, program}
 use Rattle.dpe_replay.specs.Mode.{Mode, check, live, list, connection}
 use Rattle.dpe_replay.specs.Words.{IsPath, IsRequest, NamesConnection, InRange, mode_of, texts, words_of}
 use Rattle.dpe_replay.specs.declared.words.Request.{Request}

@@ -1,5 +1,5 @@
 -- What a parse of the program's words comes to.
-use Rattle.std.proofs.Common.{◌≡◌, ◌≢◌, ℕ, Bool, ◌<◌, List, [], ◌∷◌, ◌++◌, length, Option, Some, None, true, false, inl, inr, refl, sym, ap, ap₂, subst, append-nil, append_assoc, ◌∙◌, arith, codes, ◌⊎◌}
+use Rattle.std.proofs.Common.{◌≡◌, ℕ, Bool, List, [], ◌∷◌, ◌++◌, length, Option, Some, None, true, false, inl, inr, refl, sym, ap, ap₂, subst, append-nil, append_assoc, ◌∙◌, arith, codes, ◌⊎◌}
 use Rattle.std.specs.Prelude.{cond, find, drop, option_map, ◌||◌, ◌&&◌, ◌==◌, is_some, nat_eq, fold, if◌then◌else◌, option_and_then}
 use Rattle.std.specs.Cmp.Lexicographic.{pointwise}
 use Rattle.std.specs.List.{AllByRecursion}
@@ -7,8 +7,8 @@ use Rattle.std.specs.Str.{bytes_eq}
 use Rattle.std.proofs.lemmas.Slice.Eq.{bytes_eq-Decides}
 use Rattle.std.specs.Option.{option_map_or}
 use Rattle.clap.specs.Lexer.{long_of, short_of, strip_byte, long_of_rest, short_of_rest}
-use Rattle.clap.specs.Walk.{Held, Row, first_of, answers_to, subcommand_met, subcommand_or_other, Names, Rule, Step, Text, Walk, idle, value, walk, walk_from, walked, word_met, after_step, walked_from, positional_held, to_positional, arg_by_index, plain_word, long_or_other, short_or_plain, trailing, nothing_held, settled, finished, rows_after}
-use Rattle.clap.specs.Simple.{App, Shape, built, built_leaf, inherited, filled, with_index, entered, names_of, subcommand_of}
+use Rattle.clap.specs.Walk.{Held, Row, first_of, answers_to, subcommand_met, subcommand_or_other, Names, Rule, Step, Text, Walk, idle, value, walk, walk_from, walked, word_met, after_step, walked_from, to_positional, arg_by_index, long_or_other, short_or_plain, trailing, nothing_held, settled, finished, rows_after}
+use Rattle.clap.specs.Simple.{App, Shape, built, built_leaf, inherited, entered, names_of, subcommand_of}
 use Rattle.clap.specs.Kinds.{Kinds, or_else}
 use Rattle.clap.specs.Faults.{fault_of, other_fault, walk_fault, entered_fault, level_fault, settle_fault, defaults_fault, check_fault, turn_fault, word_fault, step_fault, flag_word_fault, bundle_fault}
 use Rattle.clap.specs.declared.error.kind.ErrorKind.TheVariants.{UnknownArgument, InvalidSubcommand}
@@ -411,19 +411,19 @@ asks_named name rest own p e = elim (named_or (codes "check") name) [
   | inl is ↦ subst (λ (n : Text). fault_of program (n ∷ rest) ≡ [] → Asked (n ∷ rest)) is
       (λ none. inl (asks_two (codes "check") rest (subcommand_of program (codes "check" ∷ rest)) (check_entered rest) p (sym (check_level rest) ∙ none))) e
   | inr not_check ↦ elim (named_or (codes "live") name) [
+    | inl is ↦ subst (λ (n : Text). fault_of program (n ∷ rest) ≡ [] → Asked (n ∷ rest)) is
+        (λ none. inr (inl (asks_two (codes "live") rest (subcommand_of program (codes "live" ∷ rest)) (live_entered rest) p (sym (live_level rest) ∙ none)))) e
+    | inr not_live ↦ elim (named_or (codes "list") name) [
       | inl is ↦ subst (λ (n : Text). fault_of program (n ∷ rest) ≡ [] → Asked (n ∷ rest)) is
-          (λ none. inr (inl (asks_two (codes "live") rest (subcommand_of program (codes "live" ∷ rest)) (live_entered rest) p (sym (live_level rest) ∙ none)))) e
-      | inr not_live ↦ elim (named_or (codes "list") name) [
-          | inl is ↦ subst (λ (n : Text). fault_of program (n ∷ rest) ≡ [] → Asked (n ∷ rest)) is
-              (λ none. inr (inr (inl (asks_one rest (subcommand_of program (codes "list" ∷ rest)) (list_entered rest) p (sym (list_level rest) ∙ none))))) e
-          | inr not_list ↦ elim (named_or (codes "connection") name) [
-              | inl is ↦ subst (λ (n : Text). fault_of program (n ∷ rest) ≡ [] → Asked (n ∷ rest)) is
-                  (λ none. inr (inr (inr (asks_three rest (subcommand_of program (codes "connection" ∷ rest)) (connection_entered rest) p (sym (connection_level rest) ∙ none))))) e
-              | inr not_connection ↦
-                  absurd (other_fails name rest (record { check = not_check; live = not_live; list = not_list; connection = not_connection }) own e)
-            ]
-        ]
+          (λ none. inr (inr (inl (asks_one rest (subcommand_of program (codes "list" ∷ rest)) (list_entered rest) p (sym (list_level rest) ∙ none))))) e
+      | inr not_list ↦ elim (named_or (codes "connection") name) [
+        | inl is ↦ subst (λ (n : Text). fault_of program (n ∷ rest) ≡ [] → Asked (n ∷ rest)) is
+            (λ none. inr (inr (inr (asks_three rest (subcommand_of program (codes "connection" ∷ rest)) (connection_entered rest) p (sym (connection_level rest) ∙ none))))) e
+        | inr not_connection ↦
+            absurd (other_fails name rest (record { check = not_check; live = not_live; list = not_list; connection = not_connection }) own e)
+      ]
     ]
+  ]
 ]
 
 pub asks : (words : List Text) → AllPlain words → fault_of program words ≡ [] → Asked words

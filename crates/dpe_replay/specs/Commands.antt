@@ -1,5 +1,5 @@
 -- The program as a command of `clap`, with four subcommands, and what a parse of right words gives.
-use Rattle.std.specs.Prelude.{ℕ, ◌≡◌, ◌⊎◌, List, [], ◌∷◌, Option, Some, codes, true, false}
+use Rattle.std.specs.Prelude.{◌≡◌, ◌⊎◌, List, [], ◌∷◌, Option, Some, codes, true, false}
 use Rattle.clap.specs.Walk.{Row, Rule, Text, first_of}
 use Rattle.clap.specs.Simple.{App, Shape, new_rule, new_shape}
 
@@ -7,14 +7,19 @@ use Rattle.clap.specs.Simple.{App, Shape, new_rule, new_shape}
 abbrev pub required : Text → Rule
 required id = record (new_rule id) { required = true }
 
+-- `NAME SEED JOURNAL`
 abbrev pub judging : Text → Shape
 judging name = record (new_shape name) { rules = required (codes "seed") ∷ required (codes "journal") ∷ [] }
 
+-- `list JOURNAL`
 abbrev pub listing : Shape
 listing = record (new_shape (codes "list")) { rules = required (codes "journal") ∷ [] }
 
+-- `connection JOURNAL CALLER CONNECTION`
 abbrev pub connecting : Shape
-connecting = record (new_shape (codes "connection")) { rules = required (codes "journal") ∷ required (codes "caller") ∷ required (codes "number") ∷ [] }
+connecting = record (new_shape (codes "connection")) {
+  rules = required (codes "journal") ∷ required (codes "caller") ∷ required (codes "number") ∷ [];
+}
 
 -- the program without its subcommands
 abbrev pub bare : App
@@ -28,13 +33,14 @@ bare = record {
   subs = [];
 }
 
+-- one command with four subcommands
 abbrev pub program : App
 program = record {
   top = record bare.top { is_leaf = false };
   subs = judging (codes "check") ∷ judging (codes "live") ∷ listing ∷ connecting ∷ [];
 }
 
--- the words are this name and two more, which the subcommand's matches have
+-- the words are this name, a seed and a journal, and the subcommand that was met has them
 pub record AsksTwo (name : Text) (words : List Text) (met : Option (Text × List Row)) : Type 0 where
   pub seed : Text
   pub journal : Text
@@ -44,6 +50,7 @@ pub record AsksTwo (name : Text) (words : List Text) (met : Option (Text × List
   pub has_seed : first_of (codes "seed") rows ≡ Some seed
   pub has_journal : first_of (codes "journal") rows ≡ Some journal
 
+-- the same of `list` and a journal
 pub record AsksOne (words : List Text) (met : Option (Text × List Row)) : Type 0 where
   pub journal : Text
   pub rows : List Row
@@ -51,6 +58,7 @@ pub record AsksOne (words : List Text) (met : Option (Text × List Row)) : Type 
   pub entered : met ≡ Some (codes "list", rows)
   pub has_journal : first_of (codes "journal") rows ≡ Some journal
 
+-- the same of `connection`, a journal and two more words
 pub record AsksThree (words : List Text) (met : Option (Text × List Row)) : Type 0 where
   pub journal : Text
   pub caller : Text
@@ -62,5 +70,8 @@ pub record AsksThree (words : List Text) (met : Option (Text × List Row)) : Typ
   pub has_caller : first_of (codes "caller") rows ≡ Some caller
   pub has_number : first_of (codes "number") rows ≡ Some number
 
+-- the words are of one of the four forms, but that numbers may be any words
 abbrev pub Asks : List Text → Option (Text × List Row) → Type 0
-Asks words met = AsksTwo (codes "check") words met ⊎ (AsksTwo (codes "live") words met ⊎ (AsksOne words met ⊎ AsksThree words met))
+Asks words met =
+    AsksTwo (codes "check") words met
+    ⊎ (AsksTwo (codes "live") words met ⊎ (AsksOne words met ⊎ AsksThree words met))

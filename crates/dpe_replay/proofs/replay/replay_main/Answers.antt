@@ -1,4 +1,4 @@
-use Rattle.std.proofs.Common.{◌≡◌, ℕ, ◌⊎◌, inl, inr, refl, sym, subst, ◌∙◌}
+use Rattle.std.proofs.Common.{◌≡◌, ℕ, ◌⊎◌, inl, inr, sym, subst, ◌∙◌}
 use Rattle.dpe_replay.specs.Finding.{status_of}
 use Rattle.dpe_replay.specs.Mode.{Mode}
 use Rattle.dpe_replay.specs.Replay.{RunEnds}

@@ -1,4 +1,4 @@
-use Rattle.std.proofs.Common.{IfOk, ap, refl, subst, ◌∙◌}
+use Rattle.std.proofs.Common.{IfOk, ap, subst}
 use Rattle.clap.specs.Words.{App, FailsBy, HasMatchesOf, fault_of, is_simple_and_free}
 use Rattle.dpe_replay.specs.Words.{texts}
 use Rattle.dpe_replay.proofs.Parsing.{parse_asks, parse_refuses}
