@@ -1,11 +1,11 @@
 -- Workers whose passes are joined, one after the other.
-use Rattle.std.proofs.Common.{◌≡◌, ◌≢◌, ℕ, zero, suc, ◌+◌, ◌<◌, ◌≤◌, Bool, true, false, cond, List, [], ◌∷◌, ◌++◌, Option, None, Some, refl, ap, sym, subst, ◌∙◌, arith, append_assoc, append-nil, length, length-append, map}
+use Rattle.std.proofs.Common.{◌≡◌, ◌≢◌, ℕ, zero, suc, ◌+◌, ◌<◌, Bool, true, cond, List, [], ◌∷◌, ◌++◌, Option, None, Some, refl, ap, sym, subst, ◌∙◌, arith, append_assoc, append-nil, length-append, map}
 use Rattle.std.specs.Prelude.{◌==◌}
 use Rattle.std.specs.List.{AllByRecursion}
 use Rattle.std.proofs.lemmas.Bool.Decides.{nat_tests}
 use Rattle.std.proofs.lemmas.List.{map-append}
 use Rattle.dpe_desk.specs.Entries.{made_by, times}
-use Rattle.dpe_desk.specs.Passes.{own_name, first_of}
+use Rattle.dpe_desk.specs.Passes.{own_name}
 use Rattle.dpe_desk.specs.Plays.{either_of}
 use Rattle.dpe_desk.specs.Views.{Sound}
 use Rattle.dpe_desk.proofs.Lists.{times_append, made_by_append}

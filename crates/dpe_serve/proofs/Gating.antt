@@ -1,6 +1,6 @@
 -- From what each worker did to one history of all.
-use Rattle.std.proofs.Common.{◌≡◌, ◌≢◌, ℕ, suc, ◌+◌, ◌<◌, ◌≤◌, List, [], ◌∷◌, ◌++◌, None, refl, ap, sym, subst, ◌∙◌, arith, length, map}
-use Rattle.std.specs.Prelude.{◌==◌, Contains}
+use Rattle.std.proofs.Common.{◌≡◌, ◌≢◌, ℕ, ◌+◌, ◌<◌, ◌≤◌, List, [], ◌∷◌, ◌++◌, None, refl, ap, sym, subst, ◌∙◌, arith, length, map}
+use Rattle.std.specs.Prelude.{Contains}
 use Rattle.std.specs.List.{AllByRecursion, AllZip}
 use Rattle.std.proofs.lemmas.List.{length-map}
 use Rattle.dpe_desk.specs.Entries.{made_by, times}
@@ -8,11 +8,11 @@ use Rattle.dpe_desk.specs.Passes.{LaterCallers, own_name}
 use Rattle.dpe_model.specs.History.{Entry, entries_of_caller, entries_of_connection}
 use Rattle.dpe_journal.specs.Shared.{shared_from}
 use Rattle.dpe_connections.specs.Conn.{Conn}
-use Rattle.dpe_serve.specs.Crews.{BookDesk, IsHired, Works, IsDone, IsWithin, Gathers, post_of}
+use Rattle.dpe_serve.specs.Crews.{BookDesk, Works, IsDone, IsWithin, Gathers, post_of}
 use Rattle.dpe_connections.specs.Drawn.{Random, Draws}
 use Rattle.dpe_connections.specs.Endings.{is_told_full}
-use Rattle.dpe_serve.specs.Gates.{Entrance, Gate, AreGates, AreNames, ServedGate, OneHistory, Serve}
-use Rattle.dpe_connections.specs.Passes.{Seat, history_of, entries_on, made_on}
+use Rattle.dpe_serve.specs.Gates.{Entrance, Gate, AreGates, AreNames, ServedGate, Serve}
+use Rattle.dpe_connections.specs.Passes.{Seat, history_of, entries_on}
 use Rattle.dpe_connections.specs.Served.{Served}
 use Rattle.dpe_connections.specs.Workers.{Visit, IsFrom, AllServed, QuietOnceFull, ended}
 use Rattle.dpe_serve.specs.declared.crew.Post.{Post}

@@ -1,9 +1,8 @@
 -- Objects that were opened and handed back: both together.
-use Rattle.std.proofs.Common.{◌≡◌, ℕ, zero, suc, ◌+◌, ◌-◌, ◌^◌, ◌<◌, ◌≤◌, min, ◌⊎◌, inl, inr, List, [], ◌∷◌, ◌++◌, length, Option, Some, None, refl, sym, ap, subst, ◌∙◌, arith}
-use Rattle.std.proofs.lemmas.List.{length-append}
+use Rattle.std.proofs.Common.{◌≡◌, ℕ, ◌+◌, List, ◌++◌, length, Option, refl, sym, ap, subst, ◌∙◌, arith}
 use Rattle.dpe_io.specs.Causes.{Rose}
-use Rattle.dpe_io.specs.Told.{IfTold, Kind, Opens, OpensNone, Returns, Placed, KeepsPlaces, with_last}
-use Rattle.dpe_serve.specs.Lending.{OpensAll, OpensUntil, ReturnsAll, PlacedFrom, HaveNoFault, HaveFault, Lends, LendsAll, LendsUntil, with_all, numbers_from}
+use Rattle.dpe_io.specs.Told.{IfTold, Kind, OpensNone}
+use Rattle.dpe_serve.specs.Lending.{OpensAll, OpensUntil, ReturnsAll, PlacedFrom, Lends, LendsAll, LendsUntil, with_all, numbers_from}
 
 module _ {T : Type 0} (faults : T → ℕ) (old mid new : Kind T) where
   -- ## All

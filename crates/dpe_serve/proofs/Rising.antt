@@ -1,14 +1,14 @@
 -- Which counts rose and which stayed, behind what stands at an outcome.
-use Rattle.std.proofs.Common.{◌≡◌, ◌≢◌, ℕ, suc, ◌+◌, ◌-◌, ◌^◌, ◌<◌, ◌≤◌, min, ◌⊎◌, inl, inr, Bool, true, false, ◌||◌, List, [], ◌∷◌, ◌++◌, length, map, Option, Some, None, refl, sym, ap, subst, ◌∙◌, arith}
+use Rattle.std.proofs.Common.{◌≡◌, ◌≢◌, ℕ, ◌<◌, ◌⊎◌, inl, inr, Bool, true, false, ◌||◌, List, [], ◌∷◌, ◌++◌, length, map, Option, Some, None, refl, ap, subst, ◌∙◌, arith}
 use Rattle.std.specs.Bool.{OnTrue, OnFalse}
 use Rattle.std.specs.List.{AllByRecursion}
 use Rattle.dpe_io.specs.Causes.{Rose}
-use Rattle.dpe_io.specs.Told.{Kind, OpensNone, IfTold}
+use Rattle.dpe_io.specs.Told.{Kind, IfTold}
 use Rattle.dpe_model.specs.History.{Entry}
-use Rattle.dpe_serve.specs.Gates.{Gate, ServedGate, Entrance}
-use Rattle.dpe_serve.specs.Headline.{ServiceView, HouseView, Tells, GatesOf, ServesDoors, Serves, ServesNone, Unopened, EntropyUnopened, DoorUnopened, JournalUnopened, WritesWhole, WritesPart}
-use Rattle.dpe_serve.specs.Headline.{IsOpened, any_failed, ForSeed, door_faults, entropy_faults, ServesOneHistory, ServesUnprinted, FailsToServe, FailsToWrite, NothingOpened, Stands}
-use Rattle.dpe_serve.specs.Lending.{HaveNoFault, HaveFault, LendsAll, LendsOne, LendsUntil}
+use Rattle.dpe_serve.specs.Gates.{Gate, ServedGate}
+use Rattle.dpe_serve.specs.Headline.{ServiceView, Tells, Serves, Unopened, WritesWhole, WritesPart}
+use Rattle.dpe_serve.specs.Headline.{IsOpened, any_failed, door_faults, FailsToServe, FailsToWrite, NothingOpened}
+use Rattle.dpe_serve.specs.Lending.{HaveNoFault, HaveFault, LendsOne}
 use Rattle.dpe_serve.specs.Seeds.{HasSeed, HasNoSeed, HasWrongSize}
 use Rattle.dpe_serve.specs.Setting.{Setting}
 use Rattle.dpe_serve.specs.StatusCauses.{RoseIn, KeptIn}

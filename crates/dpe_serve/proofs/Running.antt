@@ -1,40 +1,31 @@
 -- From posts that were opened, served and handed back to what became of all doors.
-use Rattle.std.proofs.Common.{◌≡◌, ℕ, suc, ◌+◌, ◌-◌, ◌<◌, ◌≤◌, ◌⊎◌, inl, inr, Bool, true, false, ◌||◌, List, [], ◌∷◌, ◌++◌, length, map, Option, Some, None, refl, sym, ap, subst, ◌∙◌, arith}
+use Rattle.std.proofs.Common.{◌≡◌, ℕ, ◌+◌, ◌<◌, ◌≤◌, inl, inr, Bool, ◌||◌, List, [], ◌∷◌, ◌++◌, length, map, Option, Some, None, refl, sym, ap, subst, ◌∙◌, arith}
 use Rattle.std.specs.Borrow.{Bor}
 use Rattle.std.specs.Prelude.{IfSome}
 use Rattle.std.specs.List.{AllByRecursion, list_any}
-use Rattle.std.specs.Io.KnownBytes.{Appends}
 use Rattle.std.proofs.lemmas.List.{length-map, length-append}
 use Rattle.std.proofs.lemmas.Simd.{map-map}
-use Rattle.dpe_io.specs.Causes.{Rose}
-use Rattle.dpe_io.specs.Told.{Kind, Opens, OpensNone, Returns, Placed}
+use Rattle.dpe_io.specs.Told.{Kind}
 use Rattle.dpe_journal.specs.BookViews.{BookView}
-use Rattle.dpe_journal.specs.Journal.{journal_bytes}
 use Rattle.dpe_model.specs.History.{Entry, Legal}
 use Rattle.dpe_model.specs.Laws.{FoldedInputs, HandleLaws}
-use Rattle.dpe_text.specs.Writing.{AppendsFront}
-use Rattle.dpe_serve.specs.Closings.{HandsBackWhole, HandsBackPart}
 use Rattle.dpe_connections.specs.Conn.{Conn}
 use Rattle.dpe_serve.specs.Crews.{IsNear}
 use Rattle.dpe_connections.specs.Drawn.{Random}
 use Rattle.dpe_serve.specs.Gates.{Entrance, Gate, AreGates, OneHistory, Serve}
-use Rattle.dpe_serve.specs.Headline.{ServiceView, HouseView, Tells, GatesOf, ServesDoors, Serves, ServesNone, Unopened, EntropyUnopened, DoorUnopened, JournalUnopened, WritesWhole, WritesPart}
-use Rattle.dpe_serve.specs.Headline.{IsOpened, any_failed, ForSeed, door_faults, entropy_faults, ServesOneHistory, ServesUnprinted, ServesInPart, FailsToServe, FailsToWrite, NothingOpened}
-use Rattle.dpe_serve.specs.Lending.{OpensAll, OpensUntil, ReturnsAll, PlacedFrom, HaveNoFault, LendsAll, LendsOne}
+use Rattle.dpe_serve.specs.Headline.{Tells, ServesDoors, Unopened}
+use Rattle.dpe_serve.specs.Headline.{IsOpened, any_failed, door_faults, entropy_faults}
+use Rattle.dpe_serve.specs.Lending.{OpensAll, ReturnsAll, PlacedFrom, HaveNoFault}
 use Rattle.dpe_serve.specs.Openings.{OpensPosts, OpensNoPosts, IsNewPost, locality_of}
 use Rattle.dpe_serve.specs.Outcomes.{RunsPosts, RunsDoors, RunsNone, ReturnsPosts}
-use Rattle.dpe_serve.specs.Seeds.{HasSeed}
 use Rattle.dpe_serve.specs.Setting.{Setting, texts}
-use Rattle.dpe_serve.specs.Summary.{totals_of, summary_text}
+use Rattle.dpe_serve.specs.Summary.{totals_of}
 use Rattle.dpe_serve.specs.Words.{SpellsIts, door_of}
 use Rattle.dpe_serve.specs.declared.crew.Post.{Post}
-use Rattle.dpe_serve.specs.declared.serve.Outcome.{Outcome}
-use Rattle.dpe_serve.specs.declared.serve.Outcome.TheVariants as outcomes
 use Rattle.dpe_serve.specs.declared.serve.Served.{Served}
-use Rattle.dpe_serve.specs.declared.summary.Totals.{Totals}
 use Rattle.dpe_connections.specs.declared.worker.Tally.{Tally}
 use Rattle.dpe_serve.proofs.Lendings.{lends_all, lends_until, until_out}
-use Rattle.dpe_serve.proofs.Lent.{lends_one, returns_more, placed_more}
+use Rattle.dpe_serve.proofs.Lent.{returns_more, placed_more}
 
 -- ## Posts
 

@@ -1,16 +1,14 @@
 -- The headline of the smallest run.
-use Rattle.std.proofs.Common.{◌≡◌, ℕ, ◌+◌, ◌<◌, ◌≤◌, ◌⊎◌, inl, inr, true, false, List, [], ◌∷◌, ◌++◌, length, Some, refl, arith}
-use Rattle.std.specs.Prelude.{codes}
-use Rattle.dpe_io.specs.Told.{Kind, all_unopened}
+use Rattle.std.proofs.Common.{◌≡◌, ℕ, inl, inr, false, List, [], ◌∷◌, Some, refl, arith}
+use Rattle.dpe_io.specs.Told.{all_unopened}
 use Rattle.dpe_journal.specs.Journal.{journal_bytes}
-use Rattle.dpe_link.specs.Frames.{Frames}
 use Rattle.dpe_model.specs.History.{Legal}
 use Rattle.dpe_model.specs.Laws.{FoldedInputs, HandleLaws}
 use Rattle.dpe_connections.specs.Conn.{Conn}
 use Rattle.dpe_connections.specs.Drawn.{Random}
 use Rattle.dpe_connections.specs.Endings as endings
 use Rattle.dpe_serve.specs.Gates.{Entrance, Gate, OneHistory, ServedGate}
-use Rattle.dpe_serve.specs.Headline.{ServesDoors, WritesWhole, ServesOneHistory}
+use Rattle.dpe_serve.specs.Headline.{ServesOneHistory}
 use Rattle.dpe_serve.specs.Lending.{Lends, LendsAll, LendsOne, HaveFault}
 use Rattle.dpe_serve.specs.Seeds.{HasSeed}
 use Rattle.dpe_connections.specs.Served.{Served}

@@ -1,10 +1,9 @@
 -- From what stands at each outcome to what stands at each status, and what may have brought it.
-use Rattle.std.proofs.Common.{◌≡◌, ◌≢◌, ℕ, ◌⊎◌, inl, inr, List, [], ◌∷◌, length, Option, Some, refl, sym, ap, subst, ◌∙◌, arith}
-use Rattle.std.specs.Prelude.{◌≤◌, ◌<◌, ◌+◌}
+use Rattle.std.proofs.Common.{◌≡◌, ◌≢◌, ℕ, ◌⊎◌, inl, inr, List, [], length, Option, refl, ap, arith}
 use Rattle.dpe_io.specs.Causes.{Rose}
-use Rattle.dpe_serve.specs.Headline.{ServiceView, HouseView, Tells, ForSeed, ServesOneHistory, ServesUnprinted, FailsToServe, FailsToWrite, NothingOpened, Headline, Stands}
+use Rattle.dpe_serve.specs.Headline.{HouseView, Tells, ForSeed, ServesOneHistory, ServesUnprinted, FailsToServe, FailsToWrite, NothingOpened, Headline, Stands}
 use Rattle.dpe_serve.specs.Outcomes.{status_at, Ends, Prints}
-use Rattle.dpe_serve.specs.Seeds.{HasSeed, HasNoSeed, HasWrongSize}
+use Rattle.dpe_serve.specs.Seeds.{HasNoSeed, HasWrongSize}
 use Rattle.dpe_serve.specs.Setting.{Setting, Spell, SpellNone}
 use Rattle.dpe_serve.specs.StatusCauses.{IsStatus, RoseIn, KeptIn, AnyRose, AllKept, StatusCause, AllBack, NextSeed, Completes}
 use Rattle.dpe_serve.specs.declared.serve.Outcome.{Outcome}

@@ -1,5 +1,5 @@
 -- The smallest run for which the headline stands: one door, whose one connection sends nothing.
-use Rattle.std.specs.Prelude.{ℕ, List, [], ◌∷◌, replicate, codes, Option, Some, length, false}
+use Rattle.std.specs.Prelude.{ℕ, List, [], ◌∷◌, replicate, codes, Some}
 use Rattle.dpe_io.specs.Told.{Kind, all_unopened}
 use Rattle.dpe_journal.specs.Journal.{journal_bytes}
 use Rattle.dpe_connections.specs.Conn.{Conn}

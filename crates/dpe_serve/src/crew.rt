@@ -54,8 +54,8 @@ fn hire<D: Door, E: Entropy>(
     Worker::new(door, entropy, own, locality, each, room)
 }
 
-// Takes the first of a list.
-fn take_first<T>(list: &mut Vec<T>) -> T
+/// Takes the first of a list.
+pub(crate) fn take_first<T>(list: &mut Vec<T>) -> T
     requires { 0 < vec_len list.old }
     ensures first { list.old.items ≡ result ∷ list.new.items }
     ensures len { vec_len list.new + 1 ≡ vec_len list.old }

@@ -7,19 +7,10 @@ ghost use Rattle.dpe_serve.specs.Openings.{OpensPost, OpensPosts, OpensNoPost, O
 ghost use Rattle.dpe_serve.specs.Setting.{texts};
 ghost use Rattle.dpe_serve.specs.Words.{SpellsIts, door_of};
 
-use crate::crew::Post;
+use crate::crew::{Post, take_first};
 use crate::setting::{DoorWord, read_door};
 use dpe_connections::{Room, Tally};
 use dpe_io::{Failed, House};
-
-// Takes the first of a list.
-fn take_first<T>(list: &mut Vec<T>) -> T
-    requires { 0 < vec_len list.old }
-    ensures first { list.old.items ≡ result ∷ list.new.items }
-    ensures len { vec_len list.new + 1 ≡ vec_len list.old }
-{
-    list.remove(0)
-}
 
 // Opens an entropy, and then the door. Where the door fails, the entropy comes back.
 fn open_post<H: House>(

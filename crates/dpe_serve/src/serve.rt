@@ -449,7 +449,7 @@ where
         (house_by H.seeds H.doors H.journals H.entropies house.old)
         (house_by H.seeds H.doors H.journals H.entropies house.new) }
 
-    // Each status comes only where a count rose that may bring it.
+    // 4 to 7 come only where a count rose that may bring them; 0 and 7 only where none of an opening, a seed, a door or a journal did.
     ensures cause { StatusCause result
         (house_by H.seeds H.doors H.journals H.entropies house.old)
         (house_by H.seeds H.doors H.journals H.entropies house.new) (O.faults out.old) (O.faults out.new) }

@@ -1,6 +1,9 @@
 //! Serves a DICE Protection Environment over Unix sockets.
 #![tactic(auto)]
 
+ghost use Rattle.std.specs.Prelude.{◌≡◌};
+ghost use Rattle.std.specs.Process.{exit_status};
+
 use dpe_io::WriteSink;
 use dpe_serve::serve_main;
 use dpe_unix::{NoStart, UnixHouse, program_words};
@@ -19,7 +22,9 @@ fn status(rt: HostRuntime) -> Result<u8, NoStart> {
 }
 
 // Tells a status other than 0 on standard error, and ends with it.
-fn finish(rt: &HostRuntime, status: u8) -> ExitCode {
+fn finish(rt: &HostRuntime, status: u8) -> ExitCode
+    ensures { exit_status result ≡ status }
+{
     if status != 0 {
         let _ = eprintln!(rt; "dpe_server: status {status}");
     }

@@ -4,7 +4,7 @@ ghost use Rattle.dpe_io.specs.Memory.{IsFaultless, IsUnused};
 
 use super::{COMMAND, JOURNAL_FULL, NO_COMMAND, REPLY, commands, replies};
 use crate::serve_main;
-use dpe_io::{MemConn, MemDoor, MemEntropy, MemHouse, MemSink, MemSource};
+use dpe_io::{Failed, House, MemConn, MemDoor, MemEntropy, MemHouse, MemSink, MemSource};
 use std::alloc::{AllocError, Global};
 use std::process::Abort;
 use std::sync::Wait;
@@ -33,6 +33,9 @@ static INITIALIZE: [u8; 10] = [0, 0, 0, 6, 0x82, 0x00, 0x43, 0x82, 0x07, 0xa0];
 
 // The frame of code 5.
 static SEED_LOCKED: [u8; 10] = [0, 0, 0, 6, 0x82, 0x00, 0x43, 0x82, 0x05, 0xa0];
+
+// The frame of code 27.
+static NOT_HERE: [u8; 11] = [0, 0, 0, 7, 0x82, 0x00, 0x44, 0x82, 0x18, 0x1b, 0xa0];
 
 // The reply to InitializeContext, with 1 as first serial and random bytes of ones.
 static FIRST_HANDLE: [u8; 28] = [
@@ -311,4 +314,102 @@ fn each_failing_call_has_its_status(rt: HostRuntime) -> Result<(), Fail> {
         ..NONE_FAILS
     };
     check_failure(&rt, alloc, &out, 7, Some(&ONE_ENTRY), (1, 1))
+}
+
+#[test]
+fn a_failed_flush_of_the_summary_is_told(rt: HostRuntime) -> Result<(), Fail> {
+    let alloc = rt.alloc();
+    let mut house = small_house(alloc, &[0; 32], &COMMAND, &NONE_FAILS)?;
+    let mut out = MemSink::new(alloc, 200, 200, &[1])?;
+    assert_eq!(rt; serve_main(&rt, alloc, &WORDS, &mut house, &mut out), 7);
+    let printed = "connections 1\ncommands 1\nrefused 0\nfull 0\ncut 0\n";
+    assert_eq!(rt; out.bytes(), printed.as_bytes());
+    Ok(())
+}
+
+// A house that keeps the paths that it was asked for, with a line feed behind each.
+#[derive(Drop)]
+struct Asked {
+    house: MemHouse,
+    paths: Vec<u8>,
+}
+
+impl Asked {
+    fn keep(&mut self, path: &str) {
+        let _ = self.paths.extend_from_slice(path.as_bytes());
+        let _ = self.paths.push(b'\n');
+    }
+}
+
+impl House for Asked {
+    type Seed = MemSource;
+
+    type Door = MemDoor;
+
+    type Journal = MemSink;
+
+    type Entropy = MemEntropy;
+
+    ghost seeds = { λ h. h.house.seeds };
+
+    ghost journals = { λ h. h.house.journals };
+
+    ghost entropies = { λ h. h.house.entropies };
+
+    ghost doors = { λ h. h.house.doors };
+
+    fn seed(&mut self, path: &str) -> Result<MemSource, Failed> {
+        self.keep(path);
+        self.house.seed(path)
+    }
+
+    fn journal(&mut self, path: &str) -> Result<MemSink, Failed> {
+        self.keep(path);
+        self.house.journal(path)
+    }
+
+    fn entropy(&mut self) -> Result<MemEntropy, Failed> {
+        self.house.entropy()
+    }
+
+    fn door(&mut self, path: &str) -> Result<MemDoor, Failed> {
+        self.keep(path);
+        self.house.door(path)
+    }
+
+    fn take_seed(&mut self, seed: MemSource) {
+        self.house.take_seed(seed)
+    }
+
+    fn take_entropy(&mut self, place: u32, entropy: MemEntropy) {
+        self.house.take_entropy(place, entropy)
+    }
+
+    fn take_door(&mut self, place: u32, door: MemDoor) {
+        self.house.take_door(place, door)
+    }
+
+    fn take_journal(&mut self, journal: MemSink) {
+        self.house.take_journal(journal)
+    }
+}
+
+#[test]
+fn each_word_is_the_path_of_its_own_object(rt: HostRuntime) -> Result<(), Fail> {
+    let alloc = rt.alloc();
+    let first = door_of(alloc, &INITIALIZE, &[])?;
+    let second = door_of(alloc, &INITIALIZE, &[])?;
+    let doors = vec![in alloc; first, second]?;
+    let mut house = Asked {
+        house: house_of(alloc, &[0; 32], doors, (1, 2), &NONE_FAILS)?,
+        paths: Vec::new(alloc),
+    };
+    let mut out = MemSink::new(alloc, 200, 9, &[])?;
+    let words = ["s", "j", "1", "4", "1", "0:p", "3:q"];
+    assert_eq!(rt; serve_main(&rt, alloc, &words, &mut house, &mut out), 0);
+    assert_eq!(rt; house.paths.as_slice(), b"s\nj\np\nq\n".as_slice());
+    // at locality 3 no root is made
+    assert_eq!(rt; got(&house.house, 1, 0)?, NOT_HERE.as_slice());
+    assert_eq!(rt; got(&house.house, 0, 0)?, FIRST_HANDLE.as_slice());
+    Ok(())
 }

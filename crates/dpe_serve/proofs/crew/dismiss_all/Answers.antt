@@ -1,9 +1,9 @@
-use Rattle.std.proofs.Common.{◌≡◌, ◌<◌, ◌≤◌, ◌+◌, ℕ, List, refl, ap, subst, ◌∙◌, arith, length, vec_len}
+use Rattle.std.proofs.Common.{◌<◌, ℕ, List, subst, arith}
 use Rattle.std.specs.List.{AllByRecursion}
 use Rattle.dpe_desk.specs.Entries.{times}
 use Rattle.dpe_serve.specs.Crews.{IsDone}
 use Rattle.dpe_connections.specs.declared.worker.Worker.{Worker}
-use Rattle.dpe_serve.proofs.Gathering.{gathering_none, gathering_more, gathering_done}
+use Rattle.dpe_serve.proofs.Gathering.{gathering_more}
 use Rattle.dpe_serve.proofs.crew.dismiss_all.Goals as goal
 
 pub dismiss-requires : goal.dismiss-requires

@@ -1,9 +1,9 @@
-use Rattle.std.proofs.Common.{◌≡◌, ◌≤◌, ◌+◌, ℕ, List, refl, ap, subst, ◌∙◌, arith, length, vec_len}
+use Rattle.std.proofs.Common.{◌≡◌, List, ap, subst, ◌∙◌, arith, length}
 use Rattle.std.specs.List.{AllByRecursion}
 use Rattle.dpe_serve.specs.Crews.{IsNear}
 use Rattle.dpe_connections.specs.Passes.{Seat}
 use Rattle.dpe_serve.specs.declared.crew.Post.{Post}
-use Rattle.dpe_serve.proofs.Hiring.{hiring_none, hiring_more, hiring_done}
+use Rattle.dpe_serve.proofs.Hiring.{hiring_more}
 use Rattle.dpe_serve.proofs.crew.hire_all.Goals as goal
 
 pub loop-posts-preserved : goal.loop-posts-preserved

@@ -1,18 +1,16 @@
-use Rattle.std.proofs.Common.{◌≡◌, ◌-◌, ◌+◌, ◌≤◌, ℕ, List, [], ◌∷◌, refl, ap, sym, subst, ◌∙◌, arith, length, map, vec_len}
-use Rattle.std.specs.Prelude.{All}
-use Rattle.std.specs.List.{AllByRecursion, AllZip}
+use Rattle.std.proofs.Common.{◌≡◌, List, [], ◌∷◌, ap, sym, subst, ◌∙◌, arith, length, map}
 use Rattle.std.proofs.lemmas.List.{length-map}
 use Rattle.dpe_desk.specs.Passes.{LaterCallers, own_name}
 use Rattle.dpe_journal.specs.Shared.{Shared, shared_from}
 use Rattle.dpe_model.specs.History.{Entry, Legal}
 use Rattle.dpe_connections.specs.Conn.{told_by}
-use Rattle.dpe_serve.specs.Crews.{IsReady, IsHired, Works}
+use Rattle.dpe_serve.specs.Crews.{IsHired, Works}
 use Rattle.dpe_connections.specs.Drawn.{random_by}
 use Rattle.dpe_serve.specs.Gates.{entrance_by}
 use Rattle.dpe_connections.specs.Passes.{Seat}
 use Rattle.dpe_connections.specs.declared.worker.Worker.{Worker}
 use Rattle.dpe_serve.proofs.Gating.{serve_as_one, closes_of}
-use Rattle.dpe_serve.proofs.Hiring.{Ran, all_ready, all_ran, all_done, zip_length}
+use Rattle.dpe_serve.proofs.Hiring.{all_ready, all_ran, all_done, zip_length}
 use Rattle.dpe_serve.proofs.Naming.{same_history}
 use Rattle.dpe_serve.proofs.crew.serve_all.Goals as goal
 

@@ -1,4 +1,4 @@
-use Rattle.std.proofs.Common.{◌≡◌, subst}
+use Rattle.std.proofs.Common.{subst}
 use Rattle.std.specs.Prelude.{slice_index_or}
 use Rattle.dpe_connections.specs.Conn.{told_by}
 use Rattle.dpe_serve.specs.Crews.{Works}

@@ -1,11 +1,11 @@
-use Rattle.std.proofs.Common.{◌≡◌, refl, arith}
+use Rattle.std.proofs.Common.{refl, arith}
 use Rattle.dpe_connections.specs.Conn.{told_by}
 use Rattle.dpe_connections.specs.Drawn.{random_by}
 use Rattle.dpe_serve.specs.Gates.{entrance_by}
 use Rattle.dpe_serve.specs.Headline.{tells_by}
 use Rattle.dpe_serve.specs.Setting.{texts}
 use Rattle.dpe_serve.specs.Words.{setting_of}
-use Rattle.dpe_serve.proofs.Running.{runs_doors, runs_none, near_posts, posts_number, doors_out, none_out, spare_out}
+use Rattle.dpe_serve.proofs.Running.{runs_doors, runs_none, near_posts, posts_number, doors_out, spare_out}
 use Rattle.dpe_serve.proofs.serve.serve_doors.Goals as goal
 
 pub serve_posts-requires-clause-open : goal.serve_posts-requires-clause-open
