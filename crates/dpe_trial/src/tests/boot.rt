@@ -1,8 +1,8 @@
 // A boot of six layers over four localities, through the client, the server and the audit of the journal.
-use super::ground::{Ground, ask, audit, room, serve};
+use super::ground::{Ground, ask, audit, serve};
 use super::watch::Watch;
 use std::test::Fail;
-use std::{fs, process, thread};
+use std::{process, thread};
 
 static SCRIPT: &[u8] = b"# boot of six layers over four localities
 0 init rom
@@ -46,6 +46,8 @@ static BEHIND_BOX: &str = "
 // The digits of the box of a text of six bytes.
 const BOX_DIGITS: usize = 182;
 
+static WORDS: [&str; 7] = ["1", "8192", "1", "0:a", "1:b", "2:c", "3:d"];
+
 static SUMMARY: &str = "connections 4
 commands 15
 refused 2
@@ -71,31 +73,16 @@ fn are_boot_lines(text: &str) -> bool {
 fn six_layers_boot_over_four_localities(rt: HostRuntime) -> Result<(), Fail> {
     let alloc = rt.alloc();
     let ground = Ground::new(&rt, "boot", process::id(rt.process()))?;
-    let script = ground.path(alloc, "script")?;
-    fs::write(&rt, script.as_str(), SCRIPT)?;
-    let (a, b) = (ground.path(alloc, "a")?, ground.path(alloc, "b")?);
-    let (c, d) = (ground.path(alloc, "c")?, ground.path(alloc, "d")?);
-    let asked = [script.as_str(), a.as_str(), b.as_str(), c.as_str(), d.as_str()];
-    let words = [
-        ground.seed.as_str(),
-        ground.journal.as_str(),
-        "1",
-        "8192",
-        "1",
-        "0:a",
-        "1:b",
-        "2:c",
-        "3:d",
-    ];
+    ground.write_script(&rt, SCRIPT)?;
     let house = ground.bind(rt, alloc, &["a", "b", "c", "d"])?;
-    let (told, said) = (room(alloc)?, room(alloc)?);
     let watch = Watch::begin(rt, alloc)?;
     let (served, answered) = thread::join(
         &rt,
-        || serve(&rt, alloc, &words, house, told),
-        || ask(rt, alloc, &asked, said),
+        || serve(&rt, alloc, &ground, house, &WORDS),
+        || ask(rt, alloc, &ground, &["a", "b", "c", "d"]),
     );
     watch.end(&rt);
+    let (served, answered) = (served?, answered?);
     assert_eq!(rt; answered.status, 0);
     assert!(rt; are_boot_lines(answered.text()), "{}", answered.text());
     assert_eq!(rt; (served.status, served.text()), (0, SUMMARY));

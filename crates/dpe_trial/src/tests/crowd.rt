@@ -1,5 +1,5 @@
 // Sixteen doors at once, with a few hundred commands each.
-use super::ground::{Ground, audit, room, serve};
+use super::ground::{Ground, audit, serve};
 use super::raw::{INITIALIZE, PROFILE, PROFILE_REPLY, ROOT_MADE, reads};
 use super::watch::Watch;
 use std::alloc::{AllocError, Global};
@@ -13,9 +13,9 @@ static NAMES: [&str; 16] = [
     "a", "b", "c", "d", "e", "f", "g", "h", "i", "j", "k", "l", "m", "n", "o", "p",
 ];
 
-static DOORS: [&str; 16] = [
-    "0:a", "1:b", "2:c", "3:d", "4:e", "5:f", "6:g", "7:h", "0:i", "1:j", "2:k", "3:l", "4:m",
-    "5:n", "6:o", "7:p",
+static WORDS: [&str; 19] = [
+    "1", "8192", "1", "0:a", "1:b", "2:c", "3:d", "4:e", "5:f", "6:g", "7:h", "0:i", "1:j", "2:k",
+    "3:l", "4:m", "5:n", "6:o", "7:p",
 ];
 
 const LOCALITIES: usize = 8;
@@ -105,24 +105,28 @@ fn total(counts: &[Option<u32>]) -> Option<u32> {
 fn sixteen_doors_serve_one_history(rt: HostRuntime) -> Result<(), Fail> {
     let alloc = rt.alloc();
     let ground = Ground::new(&rt, "crowd", process::id(rt.process()))?;
-    let mut words = Vec::new(alloc);
-    words.extend_from_slice(&[ground.seed.as_str(), ground.journal.as_str(), "1", "8192", "1"])?;
-    words.extend_from_slice(&DOORS)?;
+    let batch = batch_of(alloc)?;
     let mut paths = Vec::new(alloc);
     for name in &NAMES {
         paths.push(ground.path(alloc, name)?)?;
     }
-    let batch = batch_of(alloc)?;
     let house = ground.bind(rt, alloc, &NAMES)?;
-    let told = room(alloc)?;
     let watch = Watch::begin(rt, alloc)?;
     let (served, counts) = thread::join(
         &rt,
-        || serve(&rt, alloc, &words, house, told),
-        || thread::map_indices(&rt, alloc, NAMES.len(), &|door| ask_door(&rt, &paths, &batch, door)),
+        || serve(&rt, alloc, &ground, house, &WORDS),
+        || {
+            thread::map_indices(
+                &rt,
+                alloc,
+                NAMES.len(),
+                &|door| { ask_door(&rt, &paths, &batch, door) },
+            )
+        },
     );
     watch.end(&rt);
-    assert_eq!(rt; total(&counts?), Some(1));
+    let (served, counts) = (served?, counts?);
+    assert_eq!(rt; total(&counts), Some(1));
     assert_eq!(rt; (served.status, served.text()), (0, SUMMARY));
     let judged = audit(rt, alloc, &ground)?;
     assert_eq!(rt;

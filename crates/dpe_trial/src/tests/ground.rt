@@ -19,15 +19,16 @@ const ROOM: usize = 4_096;
 
 /// A fresh folder, with a seed of zeros and no journal yet.
 #[derive(Drop)]
-pub struct Ground {
+pub(super) struct Ground {
     folder: String,
-    pub seed: String,
-    pub journal: String,
+    seed: String,
+    journal: String,
+    script: String,
 }
 
 impl Ground {
     /// Makes the folder of this name, for the process with this number.
-    pub fn new<R: Env + Files + AllocGlobal>(
+    pub(super) fn new<R: Env + Files + AllocGlobal>(
         rt: &R,
         name: &str,
         process: u32,
@@ -38,21 +39,28 @@ impl Ground {
         fs::create_dir(rt, folder.as_str())?;
         let seed = format!(in rt.alloc(); "{folder}/seed")?;
         let journal = format!(in rt.alloc(); "{folder}/journal")?;
+        let script = format!(in rt.alloc(); "{folder}/script")?;
         fs::write(rt, seed.as_str(), [0; 32].as_slice())?;
         Ok(Ground {
             folder,
             seed,
             journal,
+            script,
         })
     }
 
+    /// Writes the client's script.
+    pub(super) fn write_script<R: Files>(&self, rt: &R, script: &[u8]) -> io::Result<()> {
+        fs::write(rt, self.script.as_str(), script)
+    }
+
     /// The path of a file of this name.
-    pub fn path(&self, alloc: Global, name: &str) -> Result<String, AllocError> {
+    pub(super) fn path(&self, alloc: Global, name: &str) -> Result<String, AllocError> {
         format!(in alloc; "{}/{name}", self.folder)
     }
 
     /// A house whose doors listen at sockets of these names.
-    pub fn bind<R: Files<File = File> + Net + Copy + Drop>(
+    pub(super) fn bind<R: Files<File = File> + Net + Copy + Drop>(
         &self,
         rt: R,
         alloc: Global,
@@ -67,56 +75,71 @@ impl Ground {
     }
 
     /// Takes the folder away.
-    pub fn remove<R: Files + AllocGlobal>(&self, rt: &R) -> io::Result<()> {
+    pub(super) fn remove<R: Files + AllocGlobal>(&self, rt: &R) -> io::Result<()> {
         fs::remove_dir_all(rt, self.folder.as_str())
     }
 }
 
 /// The status that a program ended with, and what it printed.
 #[derive(Drop)]
-pub struct Ending {
+pub(super) struct Ending {
     pub status: u8,
     out: MemSink,
 }
 
 impl Ending {
     /// The printed text.
-    pub fn text(&self) -> &str {
+    pub(super) fn text(&self) -> &str {
         str::from_utf8(self.out.bytes()).unwrap_or("no text")
     }
 }
 
-/// Room for what a program prints.
-pub fn room(alloc: Global) -> Result<MemSink, AllocError> {
+// Room for what a program prints.
+fn room(alloc: Global) -> Result<MemSink, AllocError> {
     MemSink::new(alloc, ROOM, ROOM, &[])
 }
 
-/// Runs the server until it ends.
-pub fn serve<R: Threads + Wait + Sync + Files<File = File> + Net + Drop>(
+/// Runs the server of these words behind those of the seed and the journal, until it ends.
+pub(super) fn serve<'a, R: Threads + Wait + Sync + Files<File = File> + Net + Drop>(
     rt: &R,
     alloc: Global,
-    words: &[&str],
+    ground: &'a Ground,
     mut house: BoundHouse<R>,
-    mut out: MemSink,
-) -> Ending {
-    let status = serve_main(rt, alloc, words, &mut house, &mut out);
-    Ending { status, out }
+    others: &[&'a str],
+) -> Result<Ending, AllocError> {
+    let mut words = Vec::new(alloc);
+    words.push(ground.seed.as_str())?;
+    words.push(ground.journal.as_str())?;
+    words.extend_from_slice(others)?;
+    let mut out = room(alloc)?;
+    let status = serve_main(rt, alloc, &words, &mut house, &mut out);
+    Ok(Ending { status, out })
 }
 
-/// Runs the client of this script.
-pub fn ask<R: Files<File = File> + Net + Drop>(
+/// Runs the client of the folder's script on links to the sockets of these names.
+pub(super) fn ask<R: Files<File = File> + Net + Drop>(
     rt: R,
     alloc: Global,
-    words: &[&str],
-    mut out: MemSink,
-) -> Ending {
+    ground: &Ground,
+    names: &[&str],
+) -> Result<Ending, AllocError> {
+    let mut paths = Vec::new(alloc);
+    for name in names {
+        paths.push(ground.path(alloc, name)?)?;
+    }
+    let mut words = Vec::new(alloc);
+    words.push(ground.script.as_str())?;
+    for path in &paths {
+        words.push(path.as_str())?;
+    }
+    let mut out = room(alloc)?;
     let mut dock = FileDock::new(rt);
-    let status = client_main(alloc, words, &mut dock, &mut out);
-    Ending { status, out }
+    let status = client_main(alloc, &words, &mut dock, &mut out);
+    Ok(Ending { status, out })
 }
 
 /// Checks the journal.
-pub fn audit<R: Files<File = File> + Drop>(
+pub(super) fn audit<R: Files<File = File> + Drop>(
     rt: R,
     alloc: Global,
     ground: &Ground,

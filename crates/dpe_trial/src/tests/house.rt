@@ -14,7 +14,7 @@ use std::os::unix::net::UnixListener;
 
 /// A house over files, of which each opening of a door hands out the next of its listeners, whatever the path.
 #[derive(Drop)]
-pub struct BoundHouse<R: Files<File = File> + Net + Drop> {
+pub(super) struct BoundHouse<R: Files<File = File> + Net + Drop> {
     files: UnixHouse<R>,
     listeners: Vec<UnixListener>,
     opened: u64,
@@ -41,7 +41,7 @@ impl<R: Files<File = File> + Net + Drop> Model for BoundHouse<R> {
 
 impl<R: Files<File = File> + Net + Drop> BoundHouse<R> {
     /// A house of which nothing was opened yet. The last listener is handed out first.
-    pub fn new(rt: R, listeners: Vec<UnixListener>) -> BoundHouse<R> {
+    pub(super) fn new(rt: R, listeners: Vec<UnixListener>) -> BoundHouse<R> {
         BoundHouse {
             files: UnixHouse::new(rt),
             listeners,

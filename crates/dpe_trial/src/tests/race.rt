@@ -1,12 +1,11 @@
 // Two clients that use one handle at once.
-use super::ground::{Ending, Ground, ask, audit, room, serve};
+use super::ground::{Ending, Ground, ask, audit, serve};
 use super::watch::Watch;
 use std::alloc::{AllocError, Global};
 use std::fs::{File, Files};
 use std::net::Net;
 use std::test::Fail;
-use std::thread::Threads;
-use std::{fs, io, process, thread};
+use std::{io, process, thread};
 
 static MAKE_ROOT: &[u8] = b"0 raw 8200438207a0\n";
 
@@ -23,6 +22,8 @@ const HANDLE_AT: usize = 20;
 
 const HANDLE_DIGITS: usize = 32;
 
+static WORDS: [&str; 5] = ["2", "64", "1", "0:a", "0:b"];
+
 static SUMMARY: &str = "connections 4
 commands 3
 refused 1
@@ -31,6 +32,7 @@ cut 0
 ";
 
 /// How the clients ended: the one that made the root, and the two that rotated its handle at once.
+#[derive(Drop)]
 struct Endings {
     first: Ending,
     one: Ending,
@@ -45,26 +47,16 @@ fn rotation(alloc: Global, line: &str) -> Result<String, AllocError> {
     format!(in alloc; "0 raw 820055820ea10150{handle}\n")
 }
 
-// A first client makes the root, with a link to each of two doors. Then two clients rotate its handle at once, each by a
-// link to one of the doors.
-fn race<R: Threads + Sync + Files<File = File> + Net + Copy + Send + Drop>(
+// Runs a client that makes the root, with a link to each of two doors, and writes the script that rotates its handle.
+fn make_root<R: Files<File = File> + Net + Copy + Drop>(
     rt: R,
     alloc: Global,
     ground: &Ground,
-) -> io::Result<Endings> {
-    let script = ground.path(alloc, "script")?;
-    let (a, b) = (ground.path(alloc, "a")?, ground.path(alloc, "b")?);
-    let (script, a, b) = (script.as_str(), a.as_str(), b.as_str());
-    fs::write(&rt, script, MAKE_ROOT)?;
-    let first = ask(rt, alloc, &[script, a, b], room(alloc)?);
-    fs::write(&rt, script, rotation(alloc, first.text())?.as_bytes())?;
-    let (left, right) = (room(alloc)?, room(alloc)?);
-    let (one, other) = thread::join(
-        &rt,
-        || ask(rt, alloc, &[script, a], left),
-        || ask(rt, alloc, &[script, b], right),
-    );
-    Ok(Endings { first, one, other })
+) -> io::Result<Ending> {
+    ground.write_script(&rt, MAKE_ROOT)?;
+    let first = ask(rt, alloc, ground, &["a", "b"])?;
+    ground.write_script(&rt, rotation(alloc, first.text())?.as_bytes())?;
+    Ok(first)
 }
 
 // Whether one was told a new handle, and the other that there is no such handle.
@@ -77,30 +69,34 @@ fn just_one_won(one: &str, other: &str) -> bool {
 fn of_two_clients_that_use_one_handle_just_one_is_answered(rt: HostRuntime) -> Result<(), Fail> {
     let alloc = rt.alloc();
     let ground = Ground::new(&rt, "race", process::id(rt.process()))?;
-    let words = [
-        ground.seed.as_str(),
-        ground.journal.as_str(),
-        "2",
-        "64",
-        "1",
-        "0:a",
-        "0:b",
-    ];
     let house = ground.bind(rt, alloc, &["a", "b"])?;
-    let told = room(alloc)?;
     let watch = Watch::begin(rt, alloc)?;
     let (served, raced) = thread::join(
         &rt,
-        || serve(&rt, alloc, &words, house, told),
-        || race(rt, alloc, &ground),
+        || serve(&rt, alloc, &ground, house, &WORDS),
+        || -> io::Result<Endings> {
+            let first = make_root(rt, alloc, &ground)?;
+            let (one, other) = thread::join(
+                &rt,
+                || ask(rt, alloc, &ground, &["a"]),
+                || ask(rt, alloc, &ground, &["b"]),
+            );
+            Ok(Endings {
+                first,
+                one: one?,
+                other: other?,
+            })
+        },
     );
     watch.end(&rt);
-    let Endings { first, one, other } = raced?;
+    let (served, Endings { first, one, other }) = (served?, raced?);
     assert_eq!(rt; (first.status, one.status, other.status), (0, 0, 0));
     assert!(rt; first.text().starts_with(ROOT_MADE), "{}", first.text());
     assert!(rt;
         just_one_won(one.text(), other.text()),
-        "{}{}", one.text(), other.text()
+        "{}{}",
+        one.text(),
+        other.text()
     );
     assert_eq!(rt; (served.status, served.text()), (0, SUMMARY));
     let judged = audit(rt, alloc, &ground)?;

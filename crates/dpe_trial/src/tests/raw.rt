@@ -1,5 +1,5 @@
 // Clients that write what bytes they like: whole frames at once, a frame byte by byte, a part of one, and a wrong head.
-use super::ground::{Ground, audit, room, serve};
+use super::ground::{Ground, audit, serve};
 use super::watch::Watch;
 use std::io::{self, Read, Write};
 use std::net::Net;
@@ -44,7 +44,7 @@ cut 2
 ";
 
 /// Reads as many bytes as are expected, and tells whether they are these.
-pub fn reads<S: Read>(stream: &mut S, expected: &[u8]) -> io::Result<bool> {
+pub(super) fn reads<S: Read>(stream: &mut S, expected: &[u8]) -> io::Result<bool> {
     let mut room = [0; 64];
     let Some(got) = room.get_mut(..expected.len()) else {
         return Ok(false);
@@ -96,24 +96,16 @@ fn a_server_outlives_its_clients_faults(rt: HostRuntime) -> Result<(), Fail> {
     let alloc = rt.alloc();
     let ground = Ground::new(&rt, "raw", process::id(rt.process()))?;
     let path = ground.path(alloc, "a")?;
-    let words = [
-        ground.seed.as_str(),
-        ground.journal.as_str(),
-        "4",
-        "64",
-        "1",
-        "0:a",
-    ];
     let house = ground.bind(rt, alloc, &["a"])?;
-    let told = room(alloc)?;
     let watch = Watch::begin(rt, alloc)?;
     let (served, asked) = thread::join(
         &rt,
-        || serve(&rt, alloc, &words, house, told),
+        || serve(&rt, alloc, &ground, house, &["4", "64", "1", "0:a"]),
         || ask_in_turn(&rt, path.as_str()),
     );
     watch.end(&rt);
-    assert_eq!(rt; asked?, [true; 3]);
+    let (served, asked) = (served?, asked?);
+    assert_eq!(rt; asked, [true; 3]);
     assert_eq!(rt; (served.status, served.text()), (0, SUMMARY));
     let judged = audit(rt, alloc, &ground)?;
     assert_eq!(rt;

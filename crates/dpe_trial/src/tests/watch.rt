@@ -14,7 +14,7 @@ const SLEEP_MILLIS: u64 = 10;
 
 /// A thread that ends the process where it isn't told in time that all is done. So a server or a client that waits for
 /// good makes a test fail and not hang.
-pub struct Watch {
+pub(super) struct Watch {
     done: Arc<AtomicBool, Global>,
     thread: JoinHandle<()>,
 }
@@ -32,7 +32,7 @@ fn wait_for<R: Clock + Abort>(rt: &R, done: &AtomicBool) {
 
 impl Watch {
     /// Begins to watch.
-    pub fn begin<R: Threads + Clock + Abort + Copy + Send + 'static>(
+    pub(super) fn begin<R: Threads + Clock + Abort + Copy + Send + 'static>(
         rt: R,
         alloc: Global,
     ) -> Result<Watch, AllocError> {
@@ -43,7 +43,7 @@ impl Watch {
     }
 
     /// All is done.
-    pub fn end<R: Threads>(self, rt: &R) {
+    pub(super) fn end<R: Threads>(self, rt: &R) {
         let Watch { done, thread } = self;
         done.store(true, Ordering::SeqCst);
         thread.join(rt);
