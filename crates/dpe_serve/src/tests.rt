@@ -1,7 +1,11 @@
 mod gate;
 mod server;
 
+use crate::serve_main;
+use dpe_io::{Door, House, MemSink};
 use std::alloc::{AllocError, Global};
+use std::sync::Wait;
+use std::thread::Threads;
 
 // The frames of a GetProfile and of its reply.
 static COMMAND: [u8; 10] = [0, 0, 0, 6, 0x82, 0x00, 0x43, 0x82, 0x01, 0xa0];
@@ -36,4 +40,20 @@ fn replies(alloc: Global, many: u32, rest: &[u8]) -> Result<Vec<u8>, AllocError>
     }
     bytes.extend_from_slice(rest)?;
     Ok(bytes)
+}
+
+// Serves over a house. It has no clause: the tests compare what comes of it.
+fn run<R: Threads + Wait + Sync, H: House>(
+    rt: &R,
+    alloc: Global,
+    words: &[&str],
+    house: &mut H,
+    out: &mut MemSink,
+) -> u8
+where
+    H::Door: Send,
+    H::Entropy: Send,
+    <H::Door as Door>::Conn: Send,
+{
+    serve_main(rt, alloc, words, house, out)
 }

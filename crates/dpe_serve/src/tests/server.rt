@@ -2,8 +2,7 @@
 ghost use Rattle.std.specs.Prelude.{All, IfOk};
 ghost use Rattle.dpe_io.specs.Memory.{IsFaultless, IsUnused};
 
-use super::{COMMAND, JOURNAL_FULL, NO_COMMAND, REPLY, commands, replies};
-use crate::serve_main;
+use super::{COMMAND, JOURNAL_FULL, NO_COMMAND, REPLY, commands, replies, run};
 use dpe_io::{Failed, House, MemConn, MemDoor, MemEntropy, MemHouse, MemSink, MemSource};
 use std::alloc::{AllocError, Global};
 use std::process::Abort;
@@ -156,7 +155,7 @@ fn check_server<R: Threads + Wait + Sync + Abort>(
     printed: &str,
 ) -> Result<(), Fail> {
     let mut out = MemSink::new(alloc, 200, 9, &[])?;
-    let ended = serve_main(rt, alloc, words, house, &mut out);
+    let ended = run(rt, alloc, words, house, &mut out);
     assert_eq!(rt; (ended, out.bytes()), (status, printed.as_bytes()));
     Ok(())
 }
@@ -261,7 +260,7 @@ fn check_failure<R: Threads + Wait + Sync + Abort>(
 ) -> Result<(), Fail> {
     let mut house = small_house(alloc, &[0; 32], &COMMAND, failing)?;
     let mut out = MemSink::new(alloc, 200, 9, failing.out)?;
-    assert_eq!(rt; serve_main(rt, alloc, &WORDS, &mut house, &mut out), status);
+    assert_eq!(rt; run(rt, alloc, &WORDS, &mut house, &mut out), status);
     match journal {
         Some(bytes) => assert_eq!(rt; journal_of(&house)?, bytes),
         None => assert!(rt; house.journal_sink().is_none()),
@@ -321,7 +320,7 @@ fn a_failed_flush_of_the_summary_is_told(rt: HostRuntime) -> Result<(), Fail> {
     let alloc = rt.alloc();
     let mut house = small_house(alloc, &[0; 32], &COMMAND, &NONE_FAILS)?;
     let mut out = MemSink::new(alloc, 200, 200, &[1])?;
-    assert_eq!(rt; serve_main(&rt, alloc, &WORDS, &mut house, &mut out), 7);
+    assert_eq!(rt; run(&rt, alloc, &WORDS, &mut house, &mut out), 7);
     let printed = "connections 1\ncommands 1\nrefused 0\nfull 0\ncut 0\n";
     assert_eq!(rt; out.bytes(), printed.as_bytes());
     Ok(())
@@ -406,7 +405,7 @@ fn each_word_is_the_path_of_its_own_object(rt: HostRuntime) -> Result<(), Fail> 
     };
     let mut out = MemSink::new(alloc, 200, 9, &[])?;
     let words = ["s", "j", "1", "4", "1", "0:p", "3:q"];
-    assert_eq!(rt; serve_main(&rt, alloc, &words, &mut house, &mut out), 0);
+    assert_eq!(rt; run(&rt, alloc, &words, &mut house, &mut out), 0);
     assert_eq!(rt; house.paths.as_slice(), b"s\nj\np\nq\n".as_slice());
     // at locality 3 no root is made
     assert_eq!(rt; got(&house.house, 1, 0)?, NOT_HERE.as_slice());
