@@ -5,7 +5,6 @@ pub mod Scripts
 pub mod Places
 pub mod Knowing
 pub mod Settling
-pub mod Fronts
 pub mod Running
 pub mod Taking
 pub mod Asking

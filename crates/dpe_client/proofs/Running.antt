@@ -21,7 +21,7 @@ use Rattle.dpe_client.specs.declared.run.Cause.{Cause}
 use Rattle.dpe_client.specs.declared.run.Cause.TheVariants.{Link, Reply, Output}
 use Rattle.dpe_io.specs.Causes.{Rose}
 use Rattle.dpe_client.proofs.Lists.{drop_step}
-use Rattle.dpe_client.proofs.Fronts.{then_front, front_more}
+use Rattle.dpe_text.proofs.Fronts.{then_front, front_more}
 
 -- a line and its answer
 pub record Done : Type 0 where

@@ -11,7 +11,7 @@ use Rattle.dpe_client.specs.Client.{AllOpen, AllReturn, OpensFront, OnLinks, Kin
 use Rattle.dpe_client.specs.declared.run.Cause.{Cause}
 use Rattle.dpe_client.specs.declared.run.Cause.TheVariants.{Link, Reply, Output}
 use Rattle.dpe_client.specs.declared.run.LineFault.{LineFault}
-use Rattle.dpe_client.proofs.Fronts.{then_front, front_more}
+use Rattle.dpe_text.proofs.Fronts.{then_front, front_more}
 use Rattle.dpe_client.proofs.Opening.{AreFaultless, open_out, return_out, visit_kept, visit_failed, visit_unopened, visit_out}
 
 -- the elements of a list that was lent as a whole

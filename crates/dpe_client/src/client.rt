@@ -1,15 +1,15 @@
 //! The client's top call.
-ghost use Rattle.std.specs.Prelude.{◌≡◌, ◌≢◌, ◌↔◌, ◌⊎◌, ◌+◌, ◌≤◌, ◌<◌, All, IfOk, IfErr, OnOk, OnErr, List, ℕ, [], false, true, length, take};
+ghost use Rattle.std.specs.Prelude.{◌≡◌, ◌≢◌, ◌↔◌, ◌⊎◌, ◌+◌, ◌≤◌, ◌<◌, All, IfOk, IfErr, List, ℕ, [], false, true, length, take};
 ghost use Rattle.std.specs.List.{list_all};
 ghost use Rattle.std.specs.Vec.{vec_capacity};
 ghost use Rattle.std.specs.Io.KnownBytes.{Appends};
-ghost use Rattle.dpe_io.specs.Causes.{HasCause, Rose};
+ghost use Rattle.dpe_io.specs.Causes.{Rose};
 ghost use Rattle.dpe_client.specs.Client.{is_path, are_right as are_words_right, links_in, bad_line_said, fault_said, Loads, KindKept, KindFailed, HasKindCause, Ends, EndCausedBy, WordsEnd, WordsCausedBy, IsStatus, status_of, ForScript, IfRight, IfBad, RunsOnLinks, FailsAtLink, FailsAtReply, Unprinted, Unfailed, TellsScript, TellAnswers};
 ghost use Rattle.dpe_client.specs.CodeNames.{names_of};
 ghost use Rattle.dpe_client.specs.CodeScript.{AreBelow, AreKnown, IsLineInRange, IsLineKnown, lines_are};
 ghost use Rattle.dpe_client.specs.CodeValues.{IsReady, values_of};
 ghost use Rattle.dpe_client.specs.Meaning.{no_values};
-ghost use Rattle.dpe_client.specs.Run.{AppendsFront, told_by};
+ghost use Rattle.dpe_client.specs.Run.{told_by};
 ghost use Rattle.dpe_client.specs.Script.{Line as ScriptLine, right, bad_line, max_script, script_of};
 ghost use Rattle.dpe_client.specs.Values.{texts};
 
@@ -20,7 +20,7 @@ use crate::script::{Line, MAX_SCRIPT, Script, ScriptFault, read_script};
 use crate::values::Values;
 use dpe_io::{Dock, Failed, Sink};
 use dpe_link::fill;
-use dpe_text::{Text, print};
+use dpe_text::{Text, send};
 use std::alloc::Global;
 
 /// The most links.
@@ -97,21 +97,6 @@ fn fault_text(line: usize, what: &[u8]) -> Text
     text
 }
 
-// Prints a text, and sends on all that was printed.
-fn say<O: Sink>(out: &mut O, text: &[u8]) -> Result<(), Failed>
-    ensures ok { OnOk result (Appends (O.bytes out.old) (O.bytes out.new) text.now) }
-    ensures front { OnErr result (AppendsFront (O.bytes out.old) (O.bytes out.new) text.now) }
-    ensures cause { HasCause (O.faults out.old) (O.faults out.new) result }
-{
-    match print(out, text) {
-        Ok(()) => match out.flush() {
-            Ok(()) => Ok(()),
-            Err(Failed) => Err(Failed),
-        },
-        Err(Failed) => Err(Failed),
-    }
-}
-
 // Runs the lines on the links, and prints the text on a fault.
 fn run_lines<D: Dock, O: Sink>(
     dock: &mut D,
@@ -139,7 +124,7 @@ fn run_lines<D: Dock, O: Sink>(
 {
     let fault = match run_on_links(dock, paths, links, lines, values, out) {
         Ok(()) => {
-            return match say(out, b"") {
+            return match send(out, b"") {
                 Ok(()) => End::Done,
                 Err(Failed) => End::OutputFault,
             };
@@ -147,11 +132,11 @@ fn run_lines<D: Dock, O: Sink>(
         Err(fault) => fault,
     };
     match fault.cause {
-        Cause::Link => match say(out, fault_text(fault.line, b"link").bytes()) {
+        Cause::Link => match send(out, fault_text(fault.line, b"link").bytes()) {
             Ok(()) => End::LinkFault,
             Err(Failed) => End::OutputFault,
         },
-        Cause::Reply => match say(out, fault_text(fault.line, b"reply").bytes()) {
+        Cause::Reply => match send(out, fault_text(fault.line, b"reply").bytes()) {
             Ok(()) => End::BadReply,
             Err(Failed) => End::OutputFault,
         },
@@ -210,7 +195,7 @@ fn run_text<D: Dock, O: Sink>(
     match read_script(alloc, text, paths.len() as u8) {
         Ok(script) => run_script(alloc, dock, paths, script, out),
         Err(ScriptFault::NoMemory) => End::NoMemory,
-        Err(ScriptFault::BadLine(line)) => match say(out, bad_line_text(line).bytes()) {
+        Err(ScriptFault::BadLine(line)) => match send(out, bad_line_text(line).bytes()) {
             Ok(()) => End::BadScript,
             Err(Failed) => End::OutputFault,
         },

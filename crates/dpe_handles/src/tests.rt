@@ -63,12 +63,23 @@ fn an_empty_table_has_no_handle(rt: HostRuntime) -> Result<(), Fail> {
     assert_eq!(rt; table.len(), 0);
     let (at, steps) = found(&table, &[0; 16]);
     assert_eq!(rt; at, None);
-    assert!(rt; steps <= 1);
+    assert_eq!(rt; steps, 0);
     Ok(())
 }
 
 #[test]
-fn a_full_table_is_searched_in_ten_steps(rt: HostRuntime) -> Result<(), Fail> {
+fn one_row_is_looked_at_once(rt: HostRuntime) -> Result<(), Fail> {
+    let mut table = Table::make(rt.alloc())?;
+    issue(&rt, &mut table, row(5, 9));
+    assert_eq!(rt; found(&table, &row(5, 9).handle), (Some(0), 1));
+    assert_eq!(rt; found(&table, &row(4, 9).handle), (None, 1));
+    Ok(())
+}
+
+// Eight halvings lead from 256 rows to one, which is then looked at whole.
+
+#[test]
+fn a_full_table_is_searched_in_nine_steps(rt: HostRuntime) -> Result<(), Fail> {
     let mut table = Table::make(rt.alloc())?;
     for serial in 0..256u64 {
         assert!(rt; table.len() < MOST_ROWS);
@@ -78,10 +89,10 @@ fn a_full_table_is_searched_in_ten_steps(rt: HostRuntime) -> Result<(), Fail> {
     for at in 0..256usize {
         let (here, steps) = found(&table, &row(2 * at as u64 + 1, 9).handle);
         assert_eq!(rt; here, Some(at));
-        assert!(rt; steps <= 10, "{steps} steps to {at}");
+        assert!(rt; steps == 9, "{steps} steps to {at}");
         let (between, steps) = found(&table, &row(2 * at as u64, 9).handle);
         assert_eq!(rt; between, None);
-        assert!(rt; steps <= 10, "{steps} steps before {at}");
+        assert!(rt; steps == 9, "{steps} steps before {at}");
     }
     Ok(())
 }

@@ -278,16 +278,21 @@ fn a_journal_of_no_entries_has_22_bytes(rt: HostRuntime) -> Result<(), Fail> {
     Ok(())
 }
 
-#[test]
-fn the_longest_records_come_back(rt: HostRuntime) -> Result<(), Fail> {
-    let entries = [
+// Records of 8,242, 4,146, 4,146, and three times 8,242 bytes.
+fn long_entries() -> [Entry; 6] {
+    [
         entry_of_seven(&[3; 4096], &[4; 4096]),
         entry_of_seven(&[], &[5; 4096]),
         entry_of_seven(&[6; 4096], &[]),
         entry_of_seven(&[7; 4096], &[8; 4096]),
         entry_of_seven(&[9; 4096], &[1; 4096]),
         entry_of_seven(&[2; 4096], &[3; 4096]),
-    ];
+    ]
+}
+
+#[test]
+fn the_longest_records_come_back(rt: HostRuntime) -> Result<(), Fail> {
+    let entries = long_entries();
     let mut sink = MemSink::new(rt.alloc(), 50_000, 9_000, &[])?;
     assert_eq!(rt; write_journal(9, &entries, &mut sink), Ok(()));
     let source = MemSource::new(rt.alloc(), sink.bytes(), 9_000, &[])?;
@@ -303,6 +308,18 @@ fn the_longest_records_come_back(rt: HostRuntime) -> Result<(), Fail> {
         assert_eq!(rt; entry.reply.bytes(), stored.reply.bytes());
     }
     assert_eq!(rt; read_one(&mut records, &mut entry), Some(Ok(Next::End(6))));
+    Ok(())
+}
+
+#[test]
+fn records_are_written_many_at_a_time(rt: HostRuntime) -> Result<(), Fail> {
+    // the header of 13 bytes and four records go in one write, and the second write fails
+    let mut cut = MemSink::new(rt.alloc(), 50_000, 50_000, &[1])?;
+    assert_eq!(rt;
+        write_journal(9, &long_entries(), &mut cut),
+        Err(SinkFault { written: 24_789 })
+    );
+    assert_eq!(rt; cut.bytes().len(), 24_789);
     Ok(())
 }
 

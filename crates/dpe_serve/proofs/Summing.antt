@@ -1,11 +1,9 @@
 -- Sums over the workers, and the count of refused entries, one more at a time.
-use Rattle.std.proofs.Common.{◌≡◌, ℕ, ◌+◌, ◌<◌, Bool, cond, not, List, [], length, take, get_or, Option, Some, None, Result, Ok, Err, OnErr, sym, ap, ◌∙◌, append-nil, arith}
+use Rattle.std.proofs.Common.{◌≡◌, ℕ, ◌+◌, ◌<◌, Bool, cond, not, List, [], length, take, get_or, Some, sym, ap, ◌∙◌, arith}
 use Rattle.std.specs.Prelude.{slice_get, sum_by}
-use Rattle.std.specs.Io.KnownBytes.{Appends, Keeps}
 use Rattle.std.proofs.lemmas.Option.{get_or_from_slice_get, slice_get_within}
 use Rattle.std.proofs.lemmas.List.Sums.{sum_by_more}
 use Rattle.dpe_model.specs.History.{Entry, is_accepted}
-use Rattle.dpe_text.specs.Writing.{AppendsFront}
 use Rattle.dpe_serve.specs.Summary.{refused_of}
 
 abbrev one_if : Bool → ℕ
@@ -26,17 +24,3 @@ sum_more f xs i x so_far next within is front same =
     let more = sum_by_more f xs i x within in
     let here : f x ≡ f (get_or xs i x) = ap f is in
     omega (arith, more, here, front, same)
-
--- ## What was written
-
-still_appended : (a b d : Option (List ℕ)) (text : List ℕ) → Appends a b text → Keeps b d → Appends a d text
-still_appended None b d text h k = tt
-still_appended (Some x) None d text h k = absurd h
-still_appended (Some x) (Some y) None text h k = absurd k
-still_appended (Some x) (Some y) (Some z) text h k = k ∙ h
-
--- a text that was written whole, and a call after it that wrote nothing and may have failed
-pub whole_front : {T E : Type 0} (result : Result T E) (a b d : Option (List ℕ)) (text : List ℕ) → Appends a b text → Keeps b d
-    → OnErr result (AppendsFront a d text)
-whole_front (Ok x) a b d text h k = tt
-whole_front (Err e) a b d text h k = (text, [], sym (append-nil text), still_appended a b d text h k)

@@ -11,7 +11,7 @@ use crate::crew::Post;
 use dpe_io::{Door, Entropy, Failed, Sink};
 use dpe_journal::{Book, Entry};
 use dpe_messages::reply_code;
-use dpe_text::{Text, print};
+use dpe_text::{Text, send};
 
 /// The numbers of the summary: ended connections, entries, refused entries, and the connections that ended with `Full`, and
 /// with neither `Full` nor `Closed`.
@@ -109,8 +109,5 @@ pub(crate) fn print_summary<O: Sink>(totals: &Totals, out: &mut O) -> Result<(),
     ensures front { OnErr result (AppendsFront (O.bytes out.old) (O.bytes out.new) (spec.summary_text totals.now)) }
     ensures cause { HasCause (O.faults out.old) (O.faults out.new) result }
 {
-    match print(out, summary_text(totals).bytes()) {
-        Ok(()) => out.flush(),
-        Err(Failed) => Err(Failed),
-    }
+    send(out, summary_text(totals).bytes())
 }

@@ -9,4 +9,4 @@ mod writing;
 
 pub use number::parse_number;
 pub use text::{MAX_TEXT, Text};
-pub use writing::print;
+pub use writing::{print, send};

@@ -1,4 +1,4 @@
-use crate::{Text, print};
+use crate::{Text, print, send};
 use dpe_io::MemSink;
 use std::test::Fail;
 
@@ -21,5 +21,13 @@ fn a_failed_write_leaves_a_front(rt: HostRuntime) -> Result<(), Fail> {
     let mut sink = MemSink::new(rt.alloc(), 32, 4, &[1])?;
     assert!(rt; print(&mut sink, b"entry 120").is_err());
     assert_eq!(rt; sink.bytes(), b"entr".as_slice());
+    Ok(())
+}
+
+#[test]
+fn a_failed_flush_is_told_behind_the_whole_text(rt: HostRuntime) -> Result<(), Fail> {
+    let mut sink = MemSink::new(rt.alloc(), 32, 4, &[3])?;
+    assert!(rt; send(&mut sink, b"entry 120").is_err());
+    assert_eq!(rt; sink.bytes(), b"entry 120".as_slice());
     Ok(())
 }

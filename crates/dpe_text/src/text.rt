@@ -86,7 +86,7 @@ impl Text {
         let end = self.len + 2 * bytes.len();
         match hex::encode_to_slice(bytes, &mut self.room[self.len..end]) {
             Ok(()) => self.len = end,
-            Err(_) => {}
+            Err(_) => unreachable!(),
         }
     }
 }

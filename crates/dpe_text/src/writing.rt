@@ -20,3 +20,16 @@ pub fn print<O: Sink>(out: &mut O, text: &[u8]) -> Result<(), Failed>
     }
     Ok(())
 }
+
+/// Writes a whole text and flushes. Where the sink fails, a front of the text was written: all of it, where only the flush
+/// failed.
+pub fn send<O: Sink>(out: &mut O, text: &[u8]) -> Result<(), Failed>
+    ensures ok { OnOk result (Appends (O.bytes out.old) (O.bytes out.new) text.now) }
+    ensures front { OnErr result (AppendsFront (O.bytes out.old) (O.bytes out.new) text.now) }
+    ensures cause { HasCause (O.faults out.old) (O.faults out.new) result }
+{
+    match print(out, text) {
+        Ok(()) => out.flush(),
+        Err(Failed) => Err(Failed),
+    }
+}

@@ -1,7 +1,7 @@
 use Rattle.std.proofs.Common.{ℕ, List, take, subst}
 use Rattle.dpe_link.specs.Frames.{frame}
 use Rattle.dpe_batch.specs.Reading.{AppendsFront}
-use Rattle.dpe_batch.proofs.Fronts.{front_of}
+use Rattle.dpe_text.proofs.Fronts.{front_of}
 use Rattle.dpe_batch.proofs.run.answer.Goals as goal
 
 pub returns-in-Err-clause-front : goal.returns-in-Err-clause-front

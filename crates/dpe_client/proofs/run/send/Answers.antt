@@ -1,5 +1,5 @@
 use Rattle.dpe_link.specs.Frames.{frame}
-use Rattle.dpe_client.proofs.Fronts.{front_of}
+use Rattle.dpe_text.proofs.Fronts.{front_of}
 use Rattle.dpe_client.proofs.run.send.Goals as goal
 
 pub returns-in-Err-clause-front : goal.returns-in-Err-clause-front
