@@ -104,7 +104,7 @@ fn serve_door<R: Wait, D: Door, E: Entropy>(
     ensures door_kept { OnFalse result.door_failed (D.faults door.new ≡ D.faults door.old) }
     ensures out { D.out door.new ≡ D.out door.old }
 {
-    // A pass has one name. Its call tells the proof so.
+    // What its contract says, that the pass is sound and has this name, the proof needs.
     let _name = pass.name();
     let mut tally = Tally::new();
     while tally.connections < each {
