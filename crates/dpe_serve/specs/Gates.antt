@@ -59,6 +59,7 @@ pub record ServesUpTo {C : Type 0} (each : ℕ) (tally : Tally) (visits : List (
 
 -- A gate in a history: the worker of this name served its connections, each by the entries that the history has of it.
 pub record ServedGate {C : Type 0} (tell : C → Conn) (capacity each : ℕ) (H : List Entry) (name locality : ℕ) (tally : Tally) (before after : Entrance C) (drawn_from drawn_to : Random) : Type 0 where
+  -- the endings in it are determined by what is seen of the connections (one_ending, in dpe_connections)
   pub visits : List (Visit C)
   pub up_to : ServesUpTo each tally visits before after
   pub faultless : AllByRecursion (IsFaultless tell) visits

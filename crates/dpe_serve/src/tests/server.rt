@@ -64,9 +64,10 @@ static NO_ENTRY: [u8; 22] = [
     0x44, 0x50, 0x45, 0x4a, 1, 0, 0, 0, 0, 0, 0, 0, 1, 0xff, 0, 0, 0, 0, 0, 0, 0, 0,
 ];
 
-// The calls that fail: of the first door, of the journal, of the house's openings, and of the output.
+// The calls that fail: of the seed, of the first door, of the journal, of the house's openings, and of the output.
 #[derive(Clone, Copy)]
 struct Failing<'a> {
+    seed: &'a [u32],
     door: &'a [u32],
     journal: &'a [u32],
     openings: &'a [u32],
@@ -74,6 +75,7 @@ struct Failing<'a> {
 }
 
 const NONE_FAILS: Failing<'static> = Failing {
+    seed: &[],
     door: &[],
     journal: &[],
     openings: &[],
@@ -107,7 +109,7 @@ fn house_of(
 ) -> Result<MemHouse, AllocError>
     requires { All IsUnused doors.items }
 {
-    let seed = MemSource::new(alloc, seed, 20, &[])?;
+    let seed = MemSource::new(alloc, seed, 20, failing.seed)?;
     let journal = MemSink::new(alloc, 9_000, 100, failing.journal)?;
     let first = MemEntropy::new(alloc, &[[bytes.0; 32]], &[])?;
     let second = MemEntropy::new(alloc, &[[bytes.1; 32]], &[])?;
@@ -298,6 +300,11 @@ fn each_failing_opening_has_its_status(rt: HostRuntime) -> Result<(), Fail> {
 #[test]
 fn each_failing_call_has_its_status(rt: HostRuntime) -> Result<(), Fail> {
     let alloc = rt.alloc();
+    let seed = Failing {
+        seed: &[1],
+        ..NONE_FAILS
+    };
+    check_failure(&rt, alloc, &seed, 4, None, (0, 0))?;
     let door = Failing {
         door: &[0],
         ..NONE_FAILS
@@ -308,6 +315,12 @@ fn each_failing_call_has_its_status(rt: HostRuntime) -> Result<(), Fail> {
         ..NONE_FAILS
     };
     check_failure(&rt, alloc, &journal, 6, Some(&[]), (1, 1))?;
+    // writes of 100 and of 12 bytes, and then the flush
+    let flush = Failing {
+        journal: &[2],
+        ..NONE_FAILS
+    };
+    check_failure(&rt, alloc, &flush, 6, Some(&ONE_ENTRY), (1, 1))?;
     let out = Failing {
         out: &[0],
         ..NONE_FAILS
@@ -321,8 +334,7 @@ fn a_failed_flush_of_the_summary_is_told(rt: HostRuntime) -> Result<(), Fail> {
     let mut house = small_house(alloc, &[0; 32], &COMMAND, &NONE_FAILS)?;
     let mut out = MemSink::new(alloc, 200, 200, &[1])?;
     assert_eq!(rt; run(&rt, alloc, &WORDS, &mut house, &mut out), 7);
-    let printed = "connections 1\ncommands 1\nrefused 0\nfull 0\ncut 0\n";
-    assert_eq!(rt; out.bytes(), printed.as_bytes());
+    assert_eq!(rt; out.bytes(), ONE_SERVED.as_bytes());
     Ok(())
 }
 
