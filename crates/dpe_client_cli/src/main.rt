@@ -1,6 +1,9 @@
 //! Runs a boot script on the Unix sockets of a DICE Protection Environment, and prints what came back.
 #![tactic(auto)]
 
+ghost use Rattle.std.specs.Prelude.{◌≡◌};
+ghost use Rattle.std.specs.Process.{exit_status};
+
 use dpe_client::client_main;
 use dpe_io::WriteSink;
 use dpe_unix::{FileDock, NoStart, program_words};
@@ -20,7 +23,9 @@ fn status(rt: HostRuntime) -> Result<u8, NoStart> {
 }
 
 // Tells a status other than 0 on standard error, and ends with it.
-fn finish(rt: &HostRuntime, status: u8) -> ExitCode {
+fn finish(rt: &HostRuntime, status: u8) -> ExitCode
+    ensures { exit_status result ≡ status }
+{
     if status != 0 {
         let _ = eprintln!(rt; "dpe_client: status {status}");
     }

@@ -1,6 +1,9 @@
 //! Audits a journal of a DICE Protection Environment.
 #![tactic(auto)]
 
+ghost use Rattle.std.specs.Prelude.{◌≡◌};
+ghost use Rattle.std.specs.Process.{exit_status};
+
 use dpe_io::WriteSink;
 use dpe_replay::replay_main;
 use dpe_unix::{FileShelf, NoStart, program_words};
@@ -26,7 +29,9 @@ fn status(rt: HostRuntime) -> Result<u8, NoStart> {
 }
 
 // Tells a status other than 0 on standard error, and ends with it.
-fn finish(rt: &HostRuntime, status: u8) -> ExitCode {
+fn finish(rt: &HostRuntime, status: u8) -> ExitCode
+    ensures { exit_status result ≡ status }
+{
     if status != 0 {
         let _ = eprintln!(rt; "dpe_replay: status {status}");
     }
