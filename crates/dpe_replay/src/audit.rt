@@ -187,7 +187,7 @@ fn flush_after<O: Sink>(end: End, out: &mut O) -> End
     }
 }
 
-// The same before the output is flushed.
+// Judges or lists the journal as is asked for, and leaves what was printed unflushed.
 fn audit_unflushed<S: Source, O: Sink>(
     alloc: Global,
     task: &Task,

@@ -6,8 +6,10 @@ use std::test::Fail;
 // A seed of zeros.
 const SEED: [u8; 32] = [0; 32];
 
-// Where the record, its reply and the end stand in the journal of one GetProfile.
+// Where the record, its command, its reply and the end stand in the journal of one GetProfile.
 const RECORD: usize = 13;
+
+const COMMAND: usize = 61;
 
 const REPLY: usize = 69;
 
@@ -19,6 +21,10 @@ const PROFILE: [u8; 34] = [
     0x6d, 0x65, 0x74, 0x72, 0x69, 0x63, 0x2d, 0x31, 0x02, 0x19, 0x10, 0x00, 0x03, 0x19, 0x01, 0x00,
     0x04, 0x10,
 ];
+
+// What `connection` prints of it, as reply 0.
+const PROFILE_LINE: [u8; 71] =
+    *b"0 8200581e8200a4016f6470652d73796d6d65747269632d3102191000031901000410\n";
 
 // The record of a command of caller 7 with this index, of the number and no arguments: connection 0, locality 0, random
 // bytes of zeros; and the reply.
@@ -163,8 +169,7 @@ fn replies_are_those_of_the_connection(rt: HostRuntime) -> Result<(), Fail> {
         NONE,
     )?;
     assert_eq!(rt; status, 0);
-    let line: &[u8] = b"0 8200581e8200a4016f6470652d73796d6d65747269632d3102191000031901000410\n";
-    assert_eq!(rt; text.as_slice(), line);
+    assert_eq!(rt; text.as_slice(), PROFILE_LINE.as_slice());
     Ok(())
 }
 
@@ -230,14 +235,21 @@ fn lines_stand_before_a_fault(rt: HostRuntime) -> Result<(), Fail> {
 
 #[test]
 fn what_is_no_command_has_no_number(rt: HostRuntime) -> Result<(), Fail> {
-    let mut journal = profiles(rt.alloc(), 1)?;
-    assert!(rt; journal.len() > REPLY);
-    // an odd first byte of the command and of the reply
-    journal[61] = 0x83;
-    journal[REPLY] = 0x83;
-    let (status, text) = audit(rt.alloc(), &["list", "j"], None, &journal, NONE)?;
-    assert_eq!(rt; status, 0);
-    assert_eq!(rt; text.as_slice(), b"0 7 0 0 0 - -\n".as_slice());
+    // an array of three, a session 1, a command 17 and a command 16; and a reply that is an array of three
+    for (at, byte, line) in [
+        (COMMAND, 0x83, b"0 7 0 0 0 - 0\n"),
+        (COMMAND + 1, 0x01, b"0 7 0 0 0 - 0\n"),
+        (COMMAND + 4, 0x11, b"0 7 0 0 0 - 0\n"),
+        (COMMAND + 4, 0x10, b"0 7 0 0 0 16 0"),
+        (REPLY, 0x83, b"0 7 0 0 0 1 -\n"),
+    ] {
+        let mut journal = profiles(rt.alloc(), 1)?;
+        assert!(rt; at < journal.len());
+        journal[at] = byte;
+        let (status, text) = audit(rt.alloc(), &["list", "j"], None, &journal, NONE)?;
+        assert_eq!(rt; status, 0);
+        assert!(rt; text.starts_with(line));
+    }
     Ok(())
 }
 
@@ -345,21 +357,17 @@ fn each_opening_that_fails_is_told(rt: HostRuntime) -> Result<(), Fail> {
 #[test]
 fn each_read_of_the_seed_that_fails_is_told(rt: HostRuntime) -> Result<(), Fail> {
     let journal = profiles(rt.alloc(), 1)?;
-    // ten bytes three times, two bytes, and the end
-    for call in [0, 1, 2, 3, 4] {
-        let failing = Failing {
-            seed: &[call],
-            ..NONE
-        };
-        let (status, text) = audit(
-            rt.alloc(),
-            &["check", "s", "j"],
-            Some(&SEED),
-            &journal,
-            failing,
-        )?;
-        assert_eq!(rt; status, 4);
-        assert!(rt; text.is_empty());
+    for words in JUDGING {
+        // ten bytes three times, two bytes, and the end
+        for call in [0, 1, 2, 3, 4] {
+            let failing = Failing {
+                seed: &[call],
+                ..NONE
+            };
+            let (status, text) = audit(rt.alloc(), words, Some(&SEED), &journal, failing)?;
+            assert_eq!(rt; status, 4);
+            assert!(rt; text.is_empty());
+        }
     }
     Ok(())
 }
@@ -396,10 +404,31 @@ fn each_read_of_the_journal_that_fails_is_told(rt: HostRuntime) -> Result<(), Fa
         assert_eq!(rt; status, 0);
     }
     let journal = profiles(rt.alloc(), 1)?;
-    let line: &[u8] = b"0 7 0 0 0 1 0\n";
-    let (told, status) = told_reads(rt.alloc(), &["list", "j"], None, &journal, line)?;
-    assert!(rt; told >= 4);
-    assert_eq!(rt; status, 0);
+    let check: &[&str] = &["check", "s", "j"];
+    for (words, seed, lines) in [
+        (check, Some(SEED.as_slice()), b"".as_slice()),
+        (LISTING[0], None, b"0 7 0 0 0 1 0\n".as_slice()),
+        (LISTING[1], None, PROFILE_LINE.as_slice()),
+    ] {
+        let (told, status) = told_reads(rt.alloc(), words, seed, &journal, lines)?;
+        assert!(rt; told >= 4);
+        assert_eq!(rt; status, 0);
+    }
+    Ok(())
+}
+
+#[test]
+fn lines_before_a_read_fault_are_sent_on(rt: HostRuntime) -> Result<(), Fail> {
+    let journal = profiles(rt.alloc(), 1)?;
+    // the first read fails, so that the flush is the output's first call
+    let failing = Failing {
+        journal: &[0],
+        out: &[0],
+        ..NONE
+    };
+    let (status, text) = audit(rt.alloc(), &["list", "j"], None, &journal, failing)?;
+    assert_eq!(rt; status, 7);
+    assert!(rt; text.is_empty());
     Ok(())
 }
 
