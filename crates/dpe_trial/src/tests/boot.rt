@@ -55,6 +55,12 @@ full 0
 cut 0
 ";
 
+// What the audit prints where the last reply's code was changed.
+static FORGED: &str = "entry 14
+recorded 8200438212a0
+computed 8200438211a0
+";
+
 // Whether these are the fifteen lines, with the digits of some box.
 fn are_boot_lines(text: &str) -> bool {
     let Some(rest) = text.strip_prefix(BEFORE_BOX) else {
@@ -91,6 +97,9 @@ fn six_layers_boot_over_four_localities(rt: HostRuntime) -> Result<(), Fail> {
         (judged.status, judged.text()),
         (0, "entries 15\nrefused 2\nlive 0\n")
     );
+    ground.forge(&rt)?;
+    let judged = audit(rt, alloc, &ground)?;
+    assert_eq!(rt; (judged.status, judged.text()), (12, FORGED));
     ground.remove(&rt)?;
     Ok(())
 }

@@ -17,6 +17,9 @@ use std::{env, fs, io};
 /// The most bytes that a program prints in these tests.
 const ROOM: usize = 4_096;
 
+// Behind the code of a refusal at a journal's end stand one byte of the reply, and the end of nine bytes.
+const CODE_FROM_END: usize = 11;
+
 /// A fresh folder, with a seed of zeros and no journal yet.
 #[derive(Drop)]
 pub(super) struct Ground {
@@ -72,6 +75,16 @@ impl Ground {
             listeners.push(UnixListener::bind(&rt, path.as_str())?)?;
         }
         Ok(BoundHouse::new(rt, listeners))
+    }
+
+    /// Changes the code of the journal's last reply, 17, to 18.
+    pub(super) fn forge<R: Files + AllocGlobal>(&self, rt: &R) -> io::Result<()> {
+        let mut journal = fs::read(rt, self.journal.as_str())?;
+        let size = journal.len();
+        if let Some(code) = journal.get_mut(size.saturating_sub(CODE_FROM_END)) {
+            *code = 18;
+        }
+        fs::write(rt, self.journal.as_str(), journal.as_slice())
     }
 
     /// Takes the folder away.

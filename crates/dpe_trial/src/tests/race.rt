@@ -22,6 +22,9 @@ const HANDLE_AT: usize = 20;
 
 const HANDLE_DIGITS: usize = 32;
 
+// How many digits of a handle are of random bytes.
+const RANDOM_DIGITS: usize = 16;
+
 static WORDS: [&str; 5] = ["2", "64", "1", "0:a", "0:b"];
 
 static SUMMARY: &str = "connections 4
@@ -65,6 +68,12 @@ fn just_one_won(one: &str, other: &str) -> bool {
         || other.starts_with(ROTATED) && one == NO_SUCH_HANDLE
 }
 
+// The digits of the random bytes of the handle in this line.
+fn random_digits(line: &str) -> &str {
+    line.get(ROOT_MADE.len()..ROOT_MADE.len() + RANDOM_DIGITS)
+        .unwrap_or_default()
+}
+
 #[test]
 fn of_two_clients_that_use_one_handle_just_one_is_answered(rt: HostRuntime) -> Result<(), Fail> {
     let alloc = rt.alloc();
@@ -98,6 +107,13 @@ fn of_two_clients_that_use_one_handle_just_one_is_answered(rt: HostRuntime) -> R
         one.text(),
         other.text()
     );
+    let winner = if one.text().starts_with(ROTATED) {
+        one.text()
+    } else {
+        other.text()
+    };
+    assert_eq!(rt; random_digits(first.text()).len(), RANDOM_DIGITS);
+    assert!(rt; random_digits(first.text()) != random_digits(winner));
     assert_eq!(rt; (served.status, served.text()), (0, SUMMARY));
     let judged = audit(rt, alloc, &ground)?;
     assert_eq!(rt;

@@ -5,6 +5,7 @@ use std::io::{self, Read, Write};
 use std::net::Net;
 use std::os::unix::net::UnixStream;
 use std::test::Fail;
+use std::time::{Clock, Duration};
 use std::{process, thread};
 
 /// The frame of GetProfile, and that of the reply to it.
@@ -24,6 +25,9 @@ pub static ROOT_MADE: [u8; 20] = [
 
 // The bytes of a handle that are random.
 const RANDOM: usize = 8;
+
+// The pause behind a byte that is written alone.
+const PAUSE_MILLIS: u64 = 20;
 
 // Three frames that are written at once, of which the second makes the root.
 static THREE: [u8; 30] = [
@@ -63,10 +67,11 @@ fn write_at_once(mut stream: UnixStream) -> io::Result<bool> {
     Ok(first && second && third)
 }
 
-// Writes a frame byte by byte, and reads the reply.
-fn write_slowly(mut stream: UnixStream) -> io::Result<bool> {
+// Writes a frame byte by byte, with a pause behind each so that the server finds it alone, and reads the reply.
+fn write_slowly<R: Clock>(rt: &R, mut stream: UnixStream) -> io::Result<bool> {
     for byte in &PROFILE {
         stream.write_all(&[*byte])?;
+        thread::sleep(rt, Duration::from_millis(PAUSE_MILLIS));
     }
     reads(&mut stream, &PROFILE_REPLY)
 }
@@ -83,9 +88,9 @@ fn write_too_long(mut stream: UnixStream) -> io::Result<bool> {
 }
 
 // One client after another, and whether each was answered as it should be.
-fn ask_in_turn<R: Net>(rt: &R, path: &str) -> io::Result<[bool; 3]> {
+fn ask_in_turn<R: Net + Clock>(rt: &R, path: &str) -> io::Result<[bool; 3]> {
     let at_once = write_at_once(UnixStream::connect(rt, path)?)?;
-    let slowly = write_slowly(UnixStream::connect(rt, path)?)?;
+    let slowly = write_slowly(rt, UnixStream::connect(rt, path)?)?;
     vanish(UnixStream::connect(rt, path)?)?;
     let too_long = write_too_long(UnixStream::connect(rt, path)?)?;
     Ok([at_once, slowly, too_long])
