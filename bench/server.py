@@ -2,8 +2,9 @@
 """Measures the server beside a C model with the same steps: Signs of 32 bytes, one client a door, each waiting for its reply.
 
 Run it at the top of the repository after `rt run` in crates/dpe_server. It compiles bench/server/model.c and load.c, and runs
-the model and the server by turns. The least time of each counts, since the other processes of the machine only slow a run
-down. Each run's summary is looked at, and the first journal of each is checked against Python's own HMAC.
+the model and the server by turns. The median rate of each is printed, the median of their ratios within each turn, and each
+one's slowest run, in which a collapse would show. Each run's summary is looked at, and the first journal of each is checked
+against Python's own HMAC.
 """
 import argparse
 import os
@@ -14,6 +15,7 @@ import sys
 import tempfile
 import time
 from pathlib import Path
+from statistics import median
 
 HERE = Path(__file__).resolve().parent / "server"
 SERVER = HERE.parent.parent / "crates/dpe_server/out/dpe_server"
@@ -161,30 +163,31 @@ class Bench:
         return timed["nanoseconds"]
 
     def measure(self, counts, commands, repeats):
-        """The best rate of each program at each number of doors, by turns."""
-        best = {}
+        """The rates of each program at each number of doors, one for each turn."""
+        rates = {(name, doors): [] for name in self.programs for doors in counts}
         for repeat in range(repeats):
             for doors in counts:
                 for name in list(self.programs)[:: 1 if repeat % 2 == 0 else -1]:
                     signs = commands // doors
-                    rate = doors * signs * 1e9 / self.run(name, doors, signs)
-                    best[name, doors] = max(rate, best.get((name, doors), 0))
-        return best
+                    rates[name, doors].append(doors * signs * 1e9 / self.run(name, doors, signs))
+        return rates
 
 
-def print_table(best, names, counts):
-    """A line for each number of doors: each rate, the rates beside the model's, and those beside the first line's."""
+def print_table(rates, names, counts):
+    """A line for each number of doors: each median rate, the rates beside the model's in the same turn, and the slowest runs
+    beside the median at the first number of doors."""
     others = names[1:]
     heads = ["doors", *names, *(f"{name} beside {names[0]}" for name in others)]
     first = "1 door" if counts[0] == 1 else f"{counts[0]} doors"
-    heads += ["wanted"] * bool(others) + [f"{name} beside {first}" for name in names]
+    heads += ["wanted"] * bool(others) + [f"slowest {name} beside {first}" for name in names]
     print("| " + " | ".join(heads) + " |")
     print("|---" * len(heads) + "|")
     for doors in counts:
-        cells = [str(doors), *(f"{best[name, doors]:,.0f}" for name in names)]
-        cells += [f"{best[name, doors] / best[names[0], doors]:.3f}" for name in others]
+        cells = [str(doors), *(f"{median(rates[name, doors]):,.0f}" for name in names)]
+        for name in others:
+            cells.append(f"{median([one / other for one, other in zip(rates[name, doors], rates[names[0], doors])]):.3f}")
         cells += [f"{wanted(doors)}"] * bool(others)
-        cells += [f"{best[name, doors] / best[name, counts[0]]:.3f}" for name in names]
+        cells += [f"{min(rates[name, doors]) / median(rates[name, counts[0]]):.3f}" for name in names]
         print("| " + " | ".join(cells) + " |")
 
 
@@ -226,11 +229,11 @@ def measure(words, room):
         programs["server"] = words.server.resolve()
     bench = Bench(programs, build(compiler, "load", room), prefix, room)
     load = os.getloadavg()[0]
-    best = bench.measure(words.doors, words.commands, words.repeats)
-    print(f"Commands a second, the best of {words.repeats} runs of {words.commands:,} Signs.")
+    rates = bench.measure(words.doors, words.commands, words.repeats)
+    print(f"Commands a second, the medians of {words.repeats} runs of {words.commands:,} Signs.")
     print(f"{words.processors or len(os.sched_getaffinity(0))} processors, load {load:.1f} before, {Path(compiler[0][0]).name}.")
     print()
-    print_table(best, list(programs), words.doors)
+    print_table(rates, list(programs), words.doors)
 
 
 def main():
