@@ -64,6 +64,9 @@ static NO_ENTRY: [u8; 22] = [
     0x44, 0x50, 0x45, 0x4a, 1, 0, 0, 0, 0, 0, 0, 0, 1, 0xff, 0, 0, 0, 0, 0, 0, 0, 0,
 ];
 
+// A head that tells too much, a cut head, and the frame of an empty payload.
+const FAULTY_FRAMES: [&[u8]; 3] = [&[0, 0, 0x10, 1], &[0, 0, 0], &[0, 0, 0, 0]];
+
 // The calls that fail: of the seed, of the first door, of the journal, of the house's openings, and of the output.
 #[derive(Clone, Copy)]
 struct Failing<'a> {
@@ -117,15 +120,46 @@ fn house_of(
     MemHouse::new(alloc, seed, journal, doors, entropies, failing.openings)
 }
 
-// A house with one door, at which a connection sends these bytes. Its random bytes are zeros.
+// A house with this one door. Its random bytes are zeros.
+fn house_with(
+    alloc: Global,
+    seed: &[u8],
+    door: MemDoor,
+    failing: &Failing<'_>,
+) -> Result<MemHouse, AllocError>
+    requires { IsUnused door }
+{
+    let doors = vec![in alloc; door]?;
+    house_of(alloc, seed, doors, (0, 0), failing)
+}
+
+// The same, where one connection sends these bytes at the door.
 fn small_house(
     alloc: Global,
     seed: &[u8],
     sent: &[u8],
     failing: &Failing<'_>,
 ) -> Result<MemHouse, AllocError> {
-    let doors = vec![in alloc; door_of(alloc, sent, failing.door)?]?;
-    house_of(alloc, seed, doors, (0, 0), failing)
+    house_with(alloc, seed, door_of(alloc, sent, failing.door)?, failing)
+}
+
+// A door with a connection for each of these, which sends it.
+fn crowded_door(alloc: Global, each: &[&[u8]]) -> Result<MemDoor, AllocError>
+    ensures { IfOk result IsUnused }
+{
+    let mut waiting = Vec::new(alloc);
+    for sent in each {
+        waiting.push(conn_of(alloc, sent)?)?;
+    }
+    MemDoor::new(alloc, waiting, &[])
+}
+
+// Two doors, at each of which a connection makes the root. The random bytes are ones and twos.
+fn house_of_two(alloc: Global) -> Result<MemHouse, AllocError> {
+    let first = door_of(alloc, &INITIALIZE, &[])?;
+    let second = door_of(alloc, &INITIALIZE, &[])?;
+    let doors = vec![in alloc; first, second]?;
+    house_of(alloc, &[0; 32], doors, (1, 2), &NONE_FAILS)
 }
 
 // What a connection got, its door and itself counted from 0.
@@ -175,12 +209,8 @@ fn a_command_is_served(rt: HostRuntime) -> Result<(), Fail> {
 #[test]
 fn connections_end_in_their_frames(rt: HostRuntime) -> Result<(), Fail> {
     let alloc = rt.alloc();
-    let too_long = conn_of(alloc, &[0, 0, 0x10, 1])?;
-    let cut = conn_of(alloc, &[0, 0, 0])?;
-    let empty = conn_of(alloc, &[0, 0, 0, 0])?;
-    let door = MemDoor::new(alloc, vec![in alloc; too_long, cut, empty]?, &[])?;
-    let doors = vec![in alloc; door]?;
-    let mut house = house_of(alloc, &[0; 32], doors, (0, 0), &NONE_FAILS)?;
+    let door = crowded_door(alloc, &FAULTY_FRAMES)?;
+    let mut house = house_with(alloc, &[0; 32], door, &NONE_FAILS)?;
     let printed = "connections 3\ncommands 1\nrefused 1\nfull 0\ncut 2\n";
     let words = ["s", "j", "3", "4", "1", "0:p"];
     check_server(&rt, alloc, &words, &mut house, 0, printed)?;
@@ -209,10 +239,7 @@ fn a_full_journal_ends_a_connection(rt: HostRuntime) -> Result<(), Fail> {
 #[test]
 fn one_of_two_workers_makes_the_root(rt: HostRuntime) -> Result<(), Fail> {
     let alloc = rt.alloc();
-    let first = door_of(alloc, &INITIALIZE, &[])?;
-    let second = door_of(alloc, &INITIALIZE, &[])?;
-    let doors = vec![in alloc; first, second]?;
-    let mut house = house_of(alloc, &[0; 32], doors, (1, 2), &NONE_FAILS)?;
+    let mut house = house_of_two(alloc)?;
     let printed = "connections 2\ncommands 2\nrefused 1\nfull 0\ncut 0\n";
     let words = ["s", "j", "1", "4", "1", "0:p", "0:q"];
     check_server(&rt, alloc, &words, &mut house, 0, printed)?;
@@ -408,11 +435,8 @@ impl House for Asked {
 #[test]
 fn each_word_is_the_path_of_its_own_object(rt: HostRuntime) -> Result<(), Fail> {
     let alloc = rt.alloc();
-    let first = door_of(alloc, &INITIALIZE, &[])?;
-    let second = door_of(alloc, &INITIALIZE, &[])?;
-    let doors = vec![in alloc; first, second]?;
     let mut house = Asked {
-        house: house_of(alloc, &[0; 32], doors, (1, 2), &NONE_FAILS)?,
+        house: house_of_two(alloc)?,
         paths: Vec::new(alloc),
     };
     let mut out = MemSink::new(alloc, 200, 9, &[])?;
