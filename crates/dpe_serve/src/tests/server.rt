@@ -162,118 +162,170 @@ fn house_of_two(alloc: Global) -> Result<MemHouse, AllocError> {
     house_of(alloc, &[0; 32], doors, (1, 2), &NONE_FAILS)
 }
 
-// What a connection got, its door and itself counted from 0.
-fn got(house: &MemHouse, door: usize, conn: usize) -> Result<&[u8], Fail> {
-    let Some(door) = house.doors().get(door) else {
-        return Err(Fail::new("the door didn't come back"));
-    };
-    let Some(conn) = door.ended().get(conn) else {
-        return Err(Fail::new("the connection didn't come back"));
-    };
-    Ok(conn.sink().bytes())
+// How a run ended: the status, what was printed, what each connection got, door by door, with a byte 0xff behind it, the
+// journal, and how many doors and entropies were handed back.
+#[derive(Drop)]
+struct Ended {
+    status: u8,
+    printed: Vec<u8>,
+    got: Vec<u8>,
+    journal: Option<Vec<u8>>,
+    back: (usize, usize),
 }
 
-// What the journal got.
-fn journal_of(house: &MemHouse) -> Result<&[u8], Fail> {
+// The byte behind what a connection got. No frame of these tests has it.
+const BEHIND: u8 = 0xff;
+
+// What the connections got.
+fn got(alloc: Global, house: &MemHouse) -> Result<Vec<u8>, AllocError> {
+    let mut got = Vec::new(alloc);
+    for door in house.doors() {
+        for conn in door.ended() {
+            got.extend_from_slice(conn.sink().bytes())?;
+            got.push(BEHIND)?;
+        }
+    }
+    Ok(got)
+}
+
+// These frames, with the byte behind each.
+fn apart(alloc: Global, each: &[&[u8]]) -> Result<Vec<u8>, AllocError> {
+    let mut bytes = Vec::new(alloc);
+    for frames in each {
+        bytes.extend_from_slice(frames)?;
+        bytes.push(BEHIND)?;
+    }
+    Ok(bytes)
+}
+
+// What the journal got, where it was opened.
+fn journal_of(alloc: Global, house: &MemHouse) -> Result<Option<Vec<u8>>, AllocError> {
     match house.journal_sink() {
-        Some(sink) => Ok(sink.bytes()),
-        None => Err(Fail::new("the journal didn't come back")),
+        Some(sink) => Ok(Some(Vec::from_slice(alloc, sink.bytes())?)),
+        None => Ok(None),
     }
 }
 
-// What the server answers with these words, and what it prints.
-fn check_server<R: Threads + Wait + Sync + Abort>(
+// What is left of a run with this status.
+fn end_of(alloc: Global, status: u8, house: &MemHouse, out: &MemSink) -> Result<Ended, AllocError> {
+    let printed = Vec::from_slice(alloc, out.bytes())?;
+    let got = got(alloc, house)?;
+    let journal = journal_of(alloc, house)?;
+    Ok(Ended {
+        status,
+        printed,
+        got,
+        journal,
+        back: (house.doors().len(), house.entropies().len()),
+    })
+}
+
+// Serves over a house, to an output of which these calls fail.
+fn serve<R: Threads + Wait + Sync>(
     rt: &R,
     alloc: Global,
     words: &[&str],
-    house: &mut MemHouse,
-    status: u8,
-    printed: &str,
-) -> Result<(), Fail> {
-    let mut out = MemSink::new(alloc, 200, 9, &[])?;
-    let ended = run(rt, alloc, words, house, &mut out);
-    assert_eq!(rt; (ended, out.bytes()), (status, printed.as_bytes()));
-    Ok(())
+    mut house: MemHouse,
+    failing: &[u32],
+) -> Result<Ended, AllocError> {
+    let mut out = MemSink::new(alloc, 200, 60, failing)?;
+    let status = run(rt, alloc, words, &mut house, &mut out);
+    end_of(alloc, status, &house, &out)
 }
 
 #[test]
 fn a_command_is_served(rt: HostRuntime) -> Result<(), Fail> {
-    let alloc = rt.alloc();
-    let mut house = small_house(alloc, &[0; 32], &COMMAND, &NONE_FAILS)?;
-    check_server(&rt, alloc, &WORDS, &mut house, 0, ONE_SERVED)?;
-    assert_eq!(rt; got(&house, 0, 0)?, REPLY.as_slice());
-    assert_eq!(rt; journal_of(&house)?, ONE_ENTRY.as_slice());
+    let house = small_house(rt.alloc(), &[0; 32], &COMMAND, &NONE_FAILS)?;
+    let ended = serve(&rt, rt.alloc(), &WORDS, house, &[])?;
+    assert_eq!(rt; ended.status, 0);
+    assert_eq!(rt; ended.printed.as_slice(), ONE_SERVED.as_bytes());
+    assert_eq!(rt; ended.got, apart(rt.alloc(), &[&REPLY])?);
+    assert_eq!(rt; ended.journal.as_deref(), Some(ONE_ENTRY.as_slice()));
     Ok(())
 }
 
 #[test]
 fn connections_end_in_their_frames(rt: HostRuntime) -> Result<(), Fail> {
-    let alloc = rt.alloc();
-    let door = crowded_door(alloc, &FAULTY_FRAMES)?;
-    let mut house = house_with(alloc, &[0; 32], door, &NONE_FAILS)?;
-    let printed = "connections 3\ncommands 1\nrefused 1\nfull 0\ncut 2\n";
+    let door = crowded_door(rt.alloc(), &FAULTY_FRAMES)?;
+    let house = house_with(rt.alloc(), &[0; 32], door, &NONE_FAILS)?;
     let words = ["s", "j", "3", "4", "1", "0:p"];
-    check_server(&rt, alloc, &words, &mut house, 0, printed)?;
-    assert_eq!(rt; got(&house, 0, 0)?.len(), 0);
-    assert_eq!(rt; got(&house, 0, 1)?.len(), 0);
-    assert_eq!(rt; got(&house, 0, 2)?, NO_COMMAND.as_slice());
+    let ended = serve(&rt, rt.alloc(), &words, house, &[])?;
+    assert_eq!(rt; ended.status, 0);
+    let printed = "connections 3\ncommands 1\nrefused 1\nfull 0\ncut 2\n";
+    assert_eq!(rt; ended.printed.as_slice(), printed.as_bytes());
+    assert_eq!(rt; ended.got, apart(rt.alloc(), &[&[], &[], &NO_COMMAND])?);
     // a record of an empty payload and of a reply of 6 bytes
-    assert_eq!(rt; journal_of(&house)?.len(), 78);
+    assert_eq!(rt; ended.journal.map(|journal| journal.len()), Some(78));
     Ok(())
 }
 
 #[test]
 fn a_full_journal_ends_a_connection(rt: HostRuntime) -> Result<(), Fail> {
-    let alloc = rt.alloc();
-    let sent = commands(alloc, 3, &[])?;
-    let mut house = small_house(alloc, &[0; 32], &sent, &NONE_FAILS)?;
-    let printed = "connections 1\ncommands 2\nrefused 0\nfull 1\ncut 0\n";
+    let sent = commands(rt.alloc(), 3, &[])?;
+    let house = small_house(rt.alloc(), &[0; 32], &sent, &NONE_FAILS)?;
     let words = ["s", "j", "1", "2", "1", "0:p"];
-    check_server(&rt, alloc, &words, &mut house, 0, printed)?;
-    let wanted = replies(alloc, 2, &JOURNAL_FULL)?;
-    assert_eq!(rt; got(&house, 0, 0)?, wanted.as_slice());
-    assert_eq!(rt; journal_of(&house)?.len(), 202);
+    let ended = serve(&rt, rt.alloc(), &words, house, &[])?;
+    assert_eq!(rt; ended.status, 0);
+    let printed = "connections 1\ncommands 2\nrefused 0\nfull 1\ncut 0\n";
+    assert_eq!(rt; ended.printed.as_slice(), printed.as_bytes());
+    let wanted = replies(rt.alloc(), 2, &JOURNAL_FULL)?;
+    assert_eq!(rt; ended.got, apart(rt.alloc(), &[&wanted])?);
+    assert_eq!(rt; ended.journal.map(|journal| journal.len()), Some(202));
     Ok(())
 }
 
 #[test]
 fn one_of_two_workers_makes_the_root(rt: HostRuntime) -> Result<(), Fail> {
-    let alloc = rt.alloc();
-    let mut house = house_of_two(alloc)?;
-    let printed = "connections 2\ncommands 2\nrefused 1\nfull 0\ncut 0\n";
+    let house = house_of_two(rt.alloc())?;
     let words = ["s", "j", "1", "4", "1", "0:p", "0:q"];
-    check_server(&rt, alloc, &words, &mut house, 0, printed)?;
-    let first = got(&house, 0, 0)?;
-    let second = got(&house, 1, 0)?;
-    if first == SEED_LOCKED.as_slice() {
-        assert_eq!(rt; second, SECOND_HANDLE.as_slice());
-    } else {
-        assert_eq!(rt; first, FIRST_HANDLE.as_slice());
-        assert_eq!(rt; second, SEED_LOCKED.as_slice());
-    }
+    let ended = serve(&rt, rt.alloc(), &words, house, &[])?;
+    assert_eq!(rt; ended.status, 0);
+    let printed = "connections 2\ncommands 2\nrefused 1\nfull 0\ncut 0\n";
+    assert_eq!(rt; ended.printed.as_slice(), printed.as_bytes());
+    let first = apart(rt.alloc(), &[&FIRST_HANDLE, &SEED_LOCKED])?;
+    let second = apart(rt.alloc(), &[&SEED_LOCKED, &SECOND_HANDLE])?;
+    assert!(rt; ended.got == first || ended.got == second);
     Ok(())
+}
+
+// What the server answers with these words over a house that others use too.
+fn status_of<R: Threads + Wait + Sync>(
+    rt: &R,
+    alloc: Global,
+    words: &[&str],
+    house: &mut MemHouse,
+) -> Result<(u8, usize), AllocError> {
+    let mut out = MemSink::new(alloc, 200, 60, &[])?;
+    let status = run(rt, alloc, words, house, &mut out);
+    Ok((status, out.bytes().len()))
 }
 
 #[test]
 fn wrong_words_open_nothing(rt: HostRuntime) -> Result<(), Fail> {
-    let alloc = rt.alloc();
-    let mut house = small_house(alloc, &[0; 32], &COMMAND, &NONE_FAILS)?;
+    let mut house = small_house(rt.alloc(), &[0; 32], &COMMAND, &NONE_FAILS)?;
     for words in &WRONG_WORDS {
-        check_server(&rt, alloc, words, &mut house, 2, "")?;
+        assert_eq!(rt; status_of(&rt, rt.alloc(), words, &mut house)?, (2, 0));
     }
-    check_server(&rt, alloc, &WORDS[..5], &mut house, 2, "")?;
+    assert_eq!(rt;
+        status_of(&rt, rt.alloc(), &WORDS[..5], &mut house)?,
+        (2, 0)
+    );
     // all objects are still there
-    check_server(&rt, alloc, &WORDS, &mut house, 0, ONE_SERVED)
+    assert_eq!(rt;
+        status_of(&rt, rt.alloc(), &WORDS, &mut house)?,
+        (0, ONE_SERVED.len())
+    );
+    Ok(())
 }
 
 #[test]
 fn a_seed_has_32_bytes(rt: HostRuntime) -> Result<(), Fail> {
-    let alloc = rt.alloc();
     for seed in [[0; 33].as_slice(), [0; 31].as_slice()] {
-        let mut house = small_house(alloc, seed, &COMMAND, &NONE_FAILS)?;
-        check_server(&rt, alloc, &WORDS, &mut house, 8, "")?;
-        assert!(rt; house.journal_sink().is_none());
-        assert_eq!(rt; house.doors().len(), 0);
+        let house = small_house(rt.alloc(), seed, &COMMAND, &NONE_FAILS)?;
+        let ended = serve(&rt, rt.alloc(), &WORDS, house, &[])?;
+        assert_eq!(rt; ended.status, 8);
+        assert!(rt; ended.printed.is_empty() && ended.journal.is_none());
+        assert_eq!(rt; ended.back, (0, 0));
     }
     Ok(())
 }
@@ -287,15 +339,11 @@ fn check_failure<R: Threads + Wait + Sync + Abort>(
     journal: Option<&[u8]>,
     back: (usize, usize),
 ) -> Result<(), Fail> {
-    let mut house = small_house(alloc, &[0; 32], &COMMAND, failing)?;
-    let mut out = MemSink::new(alloc, 200, 9, failing.out)?;
-    assert_eq!(rt; run(rt, alloc, &WORDS, &mut house, &mut out), status);
-    match journal {
-        Some(bytes) => assert_eq!(rt; journal_of(&house)?, bytes),
-        None => assert!(rt; house.journal_sink().is_none()),
-    }
-    assert_eq!(rt; (house.doors().len(), house.entropies().len()), back);
-    assert_eq!(rt; out.bytes().len(), 0);
+    let house = small_house(alloc, &[0; 32], &COMMAND, failing)?;
+    let ended = serve(rt, alloc, &WORDS, house, failing.out)?;
+    assert_eq!(rt; (ended.status, ended.back), (status, back));
+    assert_eq!(rt; ended.journal.as_deref(), journal);
+    assert!(rt; ended.printed.is_empty());
     Ok(())
 }
 
@@ -357,11 +405,11 @@ fn each_failing_call_has_its_status(rt: HostRuntime) -> Result<(), Fail> {
 
 #[test]
 fn a_failed_flush_of_the_summary_is_told(rt: HostRuntime) -> Result<(), Fail> {
-    let alloc = rt.alloc();
-    let mut house = small_house(alloc, &[0; 32], &COMMAND, &NONE_FAILS)?;
-    let mut out = MemSink::new(alloc, 200, 200, &[1])?;
-    assert_eq!(rt; run(&rt, alloc, &WORDS, &mut house, &mut out), 7);
-    assert_eq!(rt; out.bytes(), ONE_SERVED.as_bytes());
+    let house = small_house(rt.alloc(), &[0; 32], &COMMAND, &NONE_FAILS)?;
+    // one write of 48 bytes, and then the flush
+    let ended = serve(&rt, rt.alloc(), &WORDS, house, &[1])?;
+    assert_eq!(rt; ended.status, 7);
+    assert_eq!(rt; ended.printed.as_slice(), ONE_SERVED.as_bytes());
     Ok(())
 }
 
@@ -432,19 +480,30 @@ impl House for Asked {
     }
 }
 
-#[test]
-fn each_word_is_the_path_of_its_own_object(rt: HostRuntime) -> Result<(), Fail> {
-    let alloc = rt.alloc();
+// What the server answers over such a house with two doors, the paths that it asked for, and what the connections got.
+fn serve_asked<R: Threads + Wait + Sync>(
+    rt: &R,
+    alloc: Global,
+    words: &[&str],
+) -> Result<(u8, Vec<u8>, Vec<u8>), AllocError> {
     let mut house = Asked {
         house: house_of_two(alloc)?,
         paths: Vec::new(alloc),
     };
-    let mut out = MemSink::new(alloc, 200, 9, &[])?;
+    let mut out = MemSink::new(alloc, 200, 60, &[])?;
+    let status = run(rt, alloc, words, &mut house, &mut out);
+    let paths = Vec::from_slice(alloc, &house.paths)?;
+    let got = got(alloc, &house.house)?;
+    Ok((status, paths, got))
+}
+
+#[test]
+fn each_word_is_the_path_of_its_own_object(rt: HostRuntime) -> Result<(), Fail> {
     let words = ["s", "j", "1", "4", "1", "0:p", "3:q"];
-    assert_eq!(rt; run(&rt, alloc, &words, &mut house, &mut out), 0);
-    assert_eq!(rt; house.paths.as_slice(), b"s\nj\np\nq\n".as_slice());
+    let (status, paths, got) = serve_asked(&rt, rt.alloc(), &words)?;
+    assert_eq!(rt; status, 0);
+    assert_eq!(rt; paths.as_slice(), b"s\nj\np\nq\n".as_slice());
     // at locality 3 no root is made
-    assert_eq!(rt; got(&house.house, 1, 0)?, NOT_HERE.as_slice());
-    assert_eq!(rt; got(&house.house, 0, 0)?, FIRST_HANDLE.as_slice());
+    assert_eq!(rt; got, apart(rt.alloc(), &[&FIRST_HANDLE, &NOT_HERE])?);
     Ok(())
 }
