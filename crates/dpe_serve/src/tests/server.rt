@@ -1,5 +1,5 @@
 //! The server as a whole, over a house in memory.
-ghost use Rattle.std.specs.Prelude.{All, IfOk};
+ghost use Rattle.std.specs.Prelude.{◌≡◌, All, IfOk, OnOk};
 ghost use Rattle.dpe_io.specs.Memory.{IsFaultless, IsUnused};
 
 use super::{COMMAND, JOURNAL_FULL, NO_COMMAND, REPLY, commands, replies, run};
@@ -63,9 +63,6 @@ static ONE_ENTRY: [u8; 112] = [
 static NO_ENTRY: [u8; 22] = [
     0x44, 0x50, 0x45, 0x4a, 1, 0, 0, 0, 0, 0, 0, 0, 1, 0xff, 0, 0, 0, 0, 0, 0, 0, 0,
 ];
-
-// A head that tells too much, a cut head, and the frame of an empty payload.
-const FAULTY_FRAMES: [&[u8]; 3] = [&[0, 0, 0x10, 1], &[0, 0, 0], &[0, 0, 0, 0]];
 
 // The calls that fail: of the seed, of the first door, of the journal, of the house's openings, and of the output.
 #[derive(Clone, Copy)]
@@ -143,15 +140,24 @@ fn small_house(
     house_with(alloc, seed, door_of(alloc, sent, failing.door)?, failing)
 }
 
-// A door with a connection for each of these, which sends it.
-fn crowded_door(alloc: Global, each: &[&[u8]]) -> Result<MemDoor, AllocError>
+// Adds a connection that sends these bytes.
+fn add_conn(alloc: Global, conns: &mut Vec<MemConn>, sent: &[u8]) -> Result<(), AllocError>
+    requires { All IsFaultless conns.old.items }
+    ensures { OnOk result (All IsFaultless conns.new.items) }
+{
+    conns.push(conn_of(alloc, sent)?)?;
+    Ok(())
+}
+
+// A door with three connections: a head that tells too much, a cut head, and the frame of an empty payload.
+fn door_of_faults(alloc: Global) -> Result<MemDoor, AllocError>
     ensures { IfOk result IsUnused }
 {
-    let mut waiting = Vec::new(alloc);
-    for sent in each {
-        waiting.push(conn_of(alloc, sent)?)?;
-    }
-    MemDoor::new(alloc, waiting, &[])
+    let mut conns = Vec::new(alloc);
+    add_conn(alloc, &mut conns, &[0, 0, 0x10, 1])?;
+    add_conn(alloc, &mut conns, &[0, 0, 0])?;
+    add_conn(alloc, &mut conns, &[0, 0, 0, 0])?;
+    MemDoor::new(alloc, conns, &[])
 }
 
 // Two doors, at each of which a connection makes the root. The random bytes are ones and twos.
@@ -246,7 +252,7 @@ fn a_command_is_served(rt: HostRuntime) -> Result<(), Fail> {
 
 #[test]
 fn connections_end_in_their_frames(rt: HostRuntime) -> Result<(), Fail> {
-    let door = crowded_door(rt.alloc(), &FAULTY_FRAMES)?;
+    let door = door_of_faults(rt.alloc())?;
     let house = house_with(rt.alloc(), &[0; 32], door, &NONE_FAILS)?;
     let words = ["s", "j", "3", "4", "1", "0:p"];
     let ended = serve(&rt, rt.alloc(), &words, house, &[])?;
@@ -421,7 +427,9 @@ struct Asked {
 }
 
 impl Asked {
-    fn keep(&mut self, path: &str) {
+    fn keep(&mut self, path: &str)
+        ensures { self.new.house ≡ self.old.house }
+    {
         let _ = self.paths.extend_from_slice(path.as_bytes());
         let _ = self.paths.push(b'\n');
     }
