@@ -61,7 +61,7 @@ def exchange(stream, payload):
     stream.flush()
     size = stream.read(4)
     reply = stream.read(min(int.from_bytes(size, "big"), LONGEST_PAYLOAD))
-    require(size == len(reply).to_bytes(4, "big"), "the connection ended inside a reply, or it is too long")
+    require(size == len(reply).to_bytes(4, "big"), "the connection ended before a whole reply, or the reply is too long")
     return reply
 
 
@@ -69,7 +69,7 @@ def ask(stream, name, expected=SUCCESS, **arguments):
     number, keys, parts = COMMANDS[name]
     fields = {1 + keys.split().index(word): value for word, value in arguments.items()}
     code, came = parse_reply(exchange(stream, message(number, fields)), parts)
-    print(f"{name:18}code {code:<2}" + "".join(f"  {part} {value[:12].hex()}" for part, value in came.items()))
+    print(f"{name:18}code {code}", *(f" {part} {data[:12].hex()}{'..' * (len(data) > 12)}" for part, data in came.items()))
     require(code == expected, f"{name}: code {code}, and not {expected}{HINTS.get(code, '')}")
     return came
 
