@@ -43,8 +43,15 @@ static BEHIND_BOX: &str = "
 16 17
 ";
 
-// The digits of the box of a text of six bytes.
+// The digits of the box of a text of six bytes. It begins with its version; behind the 16 bytes of its salt stand the
+// masks of localities and modes, and the length of the text.
 const BOX_DIGITS: usize = 182;
+
+static VERSION: &str = "01";
+
+const MASKS_AT: usize = 34;
+
+static MASKS_AND_LENGTH: &str = "08020006";
 
 static WORDS: [&str; 7] = ["1", "8192", "1", "0:a", "1:b", "2:c", "3:d"];
 
@@ -61,7 +68,20 @@ recorded 8200438212a0
 computed 8200438211a0
 ";
 
-// Whether these are the fifteen lines, with the digits of some box.
+// Whether these are the digits of a box of a text of six bytes under the masks of the script.
+fn are_box_digits(digits: &str) -> bool {
+    digits.len() == BOX_DIGITS
+        && digits.starts_with(VERSION)
+        && digits
+            .get(MASKS_AT..)
+            .unwrap_or_default()
+            .starts_with(MASKS_AND_LENGTH)
+        && digits
+            .bytes()
+            .all(|digit| matches!(digit, b'0'..=b'9' | b'a'..=b'f'))
+}
+
+// Whether these are the fifteen lines, with the digits of a box.
 fn are_boot_lines(text: &str) -> bool {
     let Some(rest) = text.strip_prefix(BEFORE_BOX) else {
         return false;
@@ -69,10 +89,7 @@ fn are_boot_lines(text: &str) -> bool {
     let Some(digits) = rest.strip_suffix(BEHIND_BOX) else {
         return false;
     };
-    digits.len() == BOX_DIGITS
-        && digits
-            .bytes()
-            .all(|digit| matches!(digit, b'0'..=b'9' | b'a'..=b'f'))
+    are_box_digits(digits)
 }
 
 #[test]

@@ -1,4 +1,4 @@
-// Sixteen doors at once, with a few hundred commands each.
+// Sixteen doors at once, with three hundred commands each.
 use super::ground::{Ground, audit, serve};
 use super::raw::{INITIALIZE, PROFILE, PROFILE_REPLY, ROOT_MADE, reads};
 use super::watch::Watch;

@@ -113,6 +113,7 @@ fn of_two_clients_that_use_one_handle_just_one_is_answered(rt: HostRuntime) -> R
         other.text()
     };
     assert_eq!(rt; random_digits(first.text()).len(), RANDOM_DIGITS);
+    assert_eq!(rt; random_digits(winner).len(), RANDOM_DIGITS);
     assert!(rt; random_digits(first.text()) != random_digits(winner));
     assert_eq!(rt; (served.status, served.text()), (0, SUMMARY));
     let judged = audit(rt, alloc, &ground)?;

@@ -9,17 +9,17 @@ use std::time::{Clock, Duration};
 use std::{process, thread};
 
 /// The frame of GetProfile, and that of the reply to it.
-pub static PROFILE: [u8; 10] = [0, 0, 0, 6, 0x82, 0, 0x43, 0x82, 1, 0xa0];
+pub(super) static PROFILE: [u8; 10] = [0, 0, 0, 6, 0x82, 0, 0x43, 0x82, 1, 0xa0];
 
-pub static PROFILE_REPLY: [u8; 38] = [
+pub(super) static PROFILE_REPLY: [u8; 38] = [
     0, 0, 0, 0x22, 0x82, 0, 0x58, 0x1e, 0x82, 0, 0xa4, 1, 0x6f, 0x64, 0x70, 0x65, 0x2d, 0x73, 0x79,
     0x6d, 0x6d, 0x65, 0x74, 0x72, 0x69, 0x63, 0x2d, 0x31, 2, 0x19, 0x10, 0, 3, 0x19, 1, 0, 4, 0x10,
 ];
 
 /// The frame of InitializeContext, and that of the reply with the root's handle, before its random bytes.
-pub static INITIALIZE: [u8; 10] = [0, 0, 0, 6, 0x82, 0, 0x43, 0x82, 7, 0xa0];
+pub(super) static INITIALIZE: [u8; 10] = [0, 0, 0, 6, 0x82, 0, 0x43, 0x82, 7, 0xa0];
 
-pub static ROOT_MADE: [u8; 20] = [
+pub(super) static ROOT_MADE: [u8; 20] = [
     0, 0, 0, 0x18, 0x82, 0, 0x55, 0x82, 0, 0xa1, 1, 0x50, 0, 0, 0, 0, 0, 0, 0, 1,
 ];
 
