@@ -5,7 +5,7 @@ ghost use Rattle.dpe_batch.specs.Pool.{picked, without_picked, with_pair, pool_l
 use arrayvec::ArrayVec;
 
 /// The most pairs of a pool.
-pub const MAX_PAIRS: usize = 64;
+const MAX_PAIRS: usize = 64;
 
 /// A handle and its locality.
 #[derive(Clone, Copy, Default)]

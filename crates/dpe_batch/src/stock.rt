@@ -12,7 +12,7 @@ use arrayvec::ArrayVec;
 use dpe_messages::Reply;
 
 /// The most bytes of a box.
-pub const MAX_BOX: usize = 2_133;
+const MAX_BOX: usize = 2_133;
 
 /// The handles that may be named, the box of the last Seal and the handle that was spent last.
 #[derive(Drop)]
