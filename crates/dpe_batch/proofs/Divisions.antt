@@ -6,8 +6,8 @@ use Rattle.std.proofs.lemmas.List.{length-append}
 use Rattle.dpe_link.proofs.Splits.{same_frame}
 use Rattle.dpe_batch.specs.Tape.{Item, IsItem, AreItems, item_bytes, tape_bytes, BeginsNoItem, IsWhole, IsMalformed, IsOverlong}
 use Rattle.dpe_batch.specs.declared.run.End.{End}
-use Rattle.dpe_batch.specs.declared.run.End.TheVariants.{Done, SourceFault, SinkFault, NoTape, Overlong}
-use Rattle.dpe_batch.specs.Run.{AnswersTape, Malformed, PastLast, Ended}
+use Rattle.dpe_batch.specs.declared.run.End.TheVariants as ends
+use Rattle.dpe_batch.specs.Run.{AnswersTape, Malformed, Overlong, Ended}
 use Rattle.dpe_batch.proofs.Items.{behind_is, at_end, too_short}
 
 -- behind two items at the front of the same bytes stand the same bytes
@@ -87,7 +87,7 @@ module _ (replies : List Item → List ℕ) (a b x y : Option (List ℕ)) (bytes
         bytes_are = c.2 ∙ append_assoc (tape_bytes r.items) r.part c.0;
       }
 
-  pub read_overlong : PastLast replies a b x y → IsOverlong bytes
+  pub read_overlong : Overlong replies a b x y → IsOverlong bytes
   read_overlong r =
       let c = private_consumed (tape_bytes r.items ++ r.part) r.read in
       record {
@@ -101,18 +101,18 @@ module _ (replies : List Item → List ℕ) (a b x y : Option (List ℕ)) (bytes
 
 -- the kind that the end of a run tells
 abbrev pub IsOfKind : End → List ℕ → Type 0
-IsOfKind Done bytes = IsWhole bytes
-IsOfKind SourceFault bytes = ⊤
-IsOfKind SinkFault bytes = ⊤
-IsOfKind NoTape bytes = IsMalformed bytes
-IsOfKind Overlong bytes = IsOverlong bytes
+IsOfKind ends.Done bytes = IsWhole bytes
+IsOfKind ends.SourceFault bytes = ⊤
+IsOfKind ends.SinkFault bytes = ⊤
+IsOfKind ends.Malformed bytes = IsMalformed bytes
+IsOfKind ends.Overlong bytes = IsOverlong bytes
 
 read_kind : (end : End) (replies : List Item → List ℕ) (a b x y : Option (List ℕ)) (bytes : List ℕ) → a ≡ Some bytes → Ended end replies a b x y → IsOfKind end bytes
-read_kind Done replies a b x y bytes told e = read_whole replies a b x y bytes told e
-read_kind SourceFault replies a b x y bytes told e = tt
-read_kind SinkFault replies a b x y bytes told e = tt
-read_kind NoTape replies a b x y bytes told e = read_malformed replies a b x y bytes told e
-read_kind Overlong replies a b x y bytes told e = read_overlong replies a b x y bytes told e
+read_kind ends.Done replies a b x y bytes told e = read_whole replies a b x y bytes told e
+read_kind ends.SourceFault replies a b x y bytes told e = tt
+read_kind ends.SinkFault replies a b x y bytes told e = tt
+read_kind ends.Malformed replies a b x y bytes told e = read_malformed replies a b x y bytes told e
+read_kind ends.Overlong replies a b x y bytes told e = read_overlong replies a b x y bytes told e
 
 pub kind_at : (end shown : End) (replies : List Item → List ℕ) (a b x y : Option (List ℕ)) (bytes : List ℕ) → end ≡ shown → Ended end replies a b x y → a ≡ Some bytes → IsOfKind shown bytes
 kind_at end shown replies a b x y bytes is e told = subst (λ (d : End). IsOfKind d bytes) is (read_kind end replies a b x y bytes told e)
