@@ -11,7 +11,7 @@ use Rattle.dpe_connections.specs.Conn.{Conn}
 use Rattle.dpe_serve.specs.Crews.{BookDesk, Works, IsDone, IsWithin, Gathers, post_of}
 use Rattle.dpe_connections.specs.Drawn.{Random, Draws}
 use Rattle.dpe_connections.specs.Endings.{is_told_full}
-use Rattle.dpe_serve.specs.Gates.{Entrance, Gate, AreGates, AreNames, ServedGate, Serve}
+use Rattle.dpe_serve.specs.Gates.{Entrance, Gate, AreGates, AreNames, ServedGate, IsServed, Serve}
 use Rattle.dpe_connections.specs.Passes.{Seat, history_of, entries_on}
 use Rattle.dpe_connections.specs.Served.{Served}
 use Rattle.dpe_connections.specs.Workers.{Visit, IsFrom, AllServed, QuietOnceFull, ended}
@@ -118,9 +118,7 @@ module _ {D E C : Type 0} where
 
   all_by_post : (tell : C → Conn) (entrance : D → Entrance C) (random : E → Random) (desk : BookDesk) (each : ℕ) (ps : List (Post D E C)) (ws : List (Worker D E C)) (H : List Entry) (pass : Seat) (idle : ℕ) (names : List ℕ)
       → AllZip (Ran tell entrance random desk each) ps ws → AllByRecursion (IsWithin pass) ws → Closes desk.terms.capacity idle names H pass
-      → AllByRecursion
-      (λ (g : Gate D E). ServedGate tell desk.terms.capacity each H g.name g.locality g.tally (entrance g.opened) (entrance g.closed) (random g.drawn_from) (random g.drawn_to))
-      (gates_of ps ws)
+      → AllByRecursion (IsServed tell entrance random desk.terms.capacity each H) (gates_of ps ws)
   all_by_post tell entrance random desk each [] ws H pass idle names r i closes = tt
   all_by_post tell entrance random desk each (p ∷ ps) [] H pass idle names r i closes = tt
   all_by_post tell entrance random desk each (p ∷ ps) (w ∷ ws) H pass idle names r i closes =

@@ -90,9 +90,7 @@ module _ {S D J E C : Type 0} (tells : Tells S D J E C) (s : Setting) (seed : Li
     }
     ends_served outcomes.NoService f = inl (record { run = served_whole f.0; failed = sym r.failed ∙ f.1 })
     ends_served outcomes.NoJournal f = inl (served_part f)
-    ends_served outcomes.NoMemory f = absurd f
-    ends_served outcomes.UnreadSeed f = absurd f
-    ends_served outcomes.WrongSeed f = absurd f
+    ends_served outcome f = absurd f
 
   module _ (book : BookView) (r : RunsNone tells s before.doors after.doors before.entropies after.entropies book) where
     empty_text : journal_bytes book.first book.history ≡ journal_bytes s.first []
@@ -113,11 +111,7 @@ module _ {S D J E C : Type 0} (tells : Tells S D J E C) (s : Setting) (seed : Li
               writes_part tells (journal_bytes s.first []) before.journals lent later after.journals journal opens none empty same
               (subst (λ (text : List ℕ). HandsBackPart tells.bytes tells.write_faults text later journal after.journals) empty_text f);
         }))
-    ends_unserved outcomes.Done f = absurd f
-    ends_unserved outcomes.NoOutput f = absurd f
-    ends_unserved outcomes.NoMemory f = absurd f
-    ends_unserved outcomes.UnreadSeed f = absurd f
-    ends_unserved outcomes.WrongSeed f = absurd f
+    ends_unserved outcome f = absurd f
 
 -- ## Kinds that stayed as they were
 
@@ -140,10 +134,6 @@ same_service {D} {J} {E} d d' j j' e e' ed ej ee =
 
 module _ {S D J E C : Type 0} (tells : Tells S D J E C) (s : Setting) (seed : List ℕ) (out_old out_new : Option (List ℕ)) (before after : HouseView S D J E) (read : HasSeed tells.left tells.read_faults before.seeds after.seeds seed) where
   pub ends_from : (o : Outcome) → EndsFrom tells s seed out_old out_new before.service after.service o → Ends tells s out_old out_new before after o
-  ends_from outcomes.Done e = (seed, read, e)
-  ends_from outcomes.NoOutput e = (seed, read, e)
-  ends_from outcomes.NoService e = (seed, read, e)
-  ends_from outcomes.NoJournal e = (seed, read, e)
-  ends_from outcomes.NoMemory e = (seed, read, e)
   ends_from outcomes.UnreadSeed e = absurd e
   ends_from outcomes.WrongSeed e = absurd e
+  ends_from outcome e = (seed, read, e)

@@ -5,7 +5,7 @@ use Rattle.std.specs.List.{AllByRecursion}
 use Rattle.dpe_io.specs.Causes.{Rose}
 use Rattle.dpe_io.specs.Told.{Kind, IfTold}
 use Rattle.dpe_model.specs.History.{Entry}
-use Rattle.dpe_serve.specs.Gates.{Gate, ServedGate}
+use Rattle.dpe_serve.specs.Gates.{Gate, IsServed}
 use Rattle.dpe_serve.specs.Headline.{ServiceView, Tells, Serves, Unopened, WritesWhole, WritesPart}
 use Rattle.dpe_serve.specs.Headline.{IsOpened, any_failed, door_faults, FailsToServe, FailsToWrite, NothingOpened}
 use Rattle.dpe_serve.specs.Lending.{HaveNoFault, HaveFault, LendsOne}
@@ -70,9 +70,7 @@ module _ {S D J E C : Type 0} (tells : Tells S D J E C) where
   -- ## Doors
 
   gates_kept : (capacity each : ℕ) (H : List Entry) (gates : List (Gate D E)) → AllByRecursion (λ g. IsOpened tells g.opened g.drawn_from) gates
-      → AllByRecursion
-      (λ (g : Gate D E). ServedGate tells.conn capacity each H g.name g.locality g.tally (tells.entrance g.opened) (tells.entrance g.closed) (tells.random g.drawn_from) (tells.random g.drawn_to))
-      gates → any_failed tells gates ≡ false → HaveNoFault (door_faults tells) (map (λ g. g.closed) gates)
+      → AllByRecursion (IsServed tells.conn tells.entrance tells.random capacity each H) gates → any_failed tells gates ≡ false → HaveNoFault (door_faults tells) (map (λ g. g.closed) gates)
   gates_kept capacity each H [] fresh served none = tt
   gates_kept capacity each H (g ∷ gs) fresh served none =
       let both = either_false g.tally.door_failed (any_failed tells gs) none in
@@ -81,9 +79,7 @@ module _ {S D J E C : Type 0} (tells : Tells S D J E C) where
       (kept ∙ fresh.0.door_kept, gates_kept capacity each H gs fresh.1 served.1 both.1)
 
   gates_failed : (capacity each : ℕ) (H : List Entry) (gates : List (Gate D E)) → AllByRecursion (λ g. IsOpened tells g.opened g.drawn_from) gates
-      → AllByRecursion
-      (λ (g : Gate D E). ServedGate tells.conn capacity each H g.name g.locality g.tally (tells.entrance g.opened) (tells.entrance g.closed) (tells.random g.drawn_from) (tells.random g.drawn_to))
-      gates → any_failed tells gates ≡ true → HaveFault (door_faults tells) (map (λ g. g.closed) gates)
+      → AllByRecursion (IsServed tells.conn tells.entrance tells.random capacity each H) gates → any_failed tells gates ≡ true → HaveFault (door_faults tells) (map (λ g. g.closed) gates)
   gates_failed capacity each H [] fresh served some = cc
   gates_failed capacity each H (g ∷ gs) fresh served some =
       elim (either_true g.tally.door_failed (any_failed tells gs) some) [

@@ -21,108 +21,55 @@ is_status outcomes.WrongSeed = (7, omega arith, refl)
 
 pub not_two : (o : Outcome) → status_at o ≢ 2
 not_two outcomes.Done is = omega (arith, is)
-not_two outcomes.NoMemory is = omega (arith, is)
-not_two outcomes.UnreadSeed is = omega (arith, is)
-not_two outcomes.NoService is = omega (arith, is)
-not_two outcomes.NoJournal is = omega (arith, is)
-not_two outcomes.NoOutput is = omega (arith, is)
-not_two outcomes.WrongSeed is = omega (arith, is)
+not_two outcome is = omega (arith, is)
 
 -- ## The output
 
 module _ {O : Type 0} (faults : O → ℕ) (old new : O) where
   out_rose : (o : Outcome) → Prints faults o old new → status_at o ≡ 7 → Rose (faults old) (faults new)
-  out_rose outcomes.Done p is = absurd (omega (arith, is))
-  out_rose outcomes.NoMemory p is = absurd (omega (arith, is))
-  out_rose outcomes.UnreadSeed p is = absurd (omega (arith, is))
-  out_rose outcomes.NoService p is = absurd (omega (arith, is))
-  out_rose outcomes.NoJournal p is = absurd (omega (arith, is))
   out_rose outcomes.NoOutput p is = p
-  out_rose outcomes.WrongSeed p is = absurd (omega (arith, is))
+  out_rose outcome p is = absurd (omega (arith, is))
 
   out_kept : (o : Outcome) → Prints faults o old new → status_at o ≢ 7 → faults new ≡ faults old
   out_kept outcomes.Done p is_not = p
-  out_kept outcomes.NoMemory p is_not = ap faults p
-  out_kept outcomes.UnreadSeed p is_not = ap faults p
-  out_kept outcomes.NoService p is_not = ap faults p
-  out_kept outcomes.NoJournal p is_not = ap faults p
   out_kept outcomes.NoOutput p is_not = absurd (is_not refl)
-  out_kept outcomes.WrongSeed p is_not = ap faults p
+  out_kept outcome p is_not = ap faults p
 
   pub out_silent : (o : Outcome) → Prints faults o old new → status_at o ≢ 0 → status_at o ≢ 7 → new ≡ old
   out_silent outcomes.Done p not_done not_cut = absurd (not_done refl)
-  out_silent outcomes.NoMemory p not_done not_cut = p
-  out_silent outcomes.UnreadSeed p not_done not_cut = p
-  out_silent outcomes.NoService p not_done not_cut = p
-  out_silent outcomes.NoJournal p not_done not_cut = p
   out_silent outcomes.NoOutput p not_done not_cut = absurd (not_cut refl)
-  out_silent outcomes.WrongSeed p not_done not_cut = p
+  out_silent outcome p not_done not_cut = p
 
 module _ {S D J E C : Type 0} (tells : Tells S D J E C) (s : Setting) (old new : Option (List ℕ)) (before after : HouseView S D J E) where
   -- ## What stands
 
   headline_of : (o : Outcome) → Ends tells s old new before after o → status_at o ≡ 0 → ForSeed tells before after (λ seed. ServesOneHistory tells s seed old new before.service after.service)
   headline_of outcomes.Done e is = e
-  headline_of outcomes.NoMemory e is = absurd (omega (arith, is))
-  headline_of outcomes.UnreadSeed e is = absurd (omega (arith, is))
-  headline_of outcomes.NoService e is = absurd (omega (arith, is))
-  headline_of outcomes.NoJournal e is = absurd (omega (arith, is))
-  headline_of outcomes.NoOutput e is = absurd (omega (arith, is))
-  headline_of outcomes.WrongSeed e is = absurd (omega (arith, is))
+  headline_of outcome e is = absurd (omega (arith, is))
 
   unprinted_of : (o : Outcome) → Ends tells s old new before after o → status_at o ≡ 7 → ForSeed tells before after (λ seed. ServesUnprinted tells s seed old new before.service after.service)
-  unprinted_of outcomes.Done e is = absurd (omega (arith, is))
-  unprinted_of outcomes.NoMemory e is = absurd (omega (arith, is))
-  unprinted_of outcomes.UnreadSeed e is = absurd (omega (arith, is))
-  unprinted_of outcomes.NoService e is = absurd (omega (arith, is))
-  unprinted_of outcomes.NoJournal e is = absurd (omega (arith, is))
   unprinted_of outcomes.NoOutput e is = e
-  unprinted_of outcomes.WrongSeed e is = absurd (omega (arith, is))
+  unprinted_of outcome e is = absurd (omega (arith, is))
 
   unserved_of : (o : Outcome) → Ends tells s old new before after o → status_at o ≡ 5 → ForSeed tells before after (λ seed. FailsToServe tells s seed before.service after.service)
-  unserved_of outcomes.Done e is = absurd (omega (arith, is))
-  unserved_of outcomes.NoMemory e is = absurd (omega (arith, is))
-  unserved_of outcomes.UnreadSeed e is = absurd (omega (arith, is))
   unserved_of outcomes.NoService e is = e
-  unserved_of outcomes.NoJournal e is = absurd (omega (arith, is))
-  unserved_of outcomes.NoOutput e is = absurd (omega (arith, is))
-  unserved_of outcomes.WrongSeed e is = absurd (omega (arith, is))
+  unserved_of outcome e is = absurd (omega (arith, is))
 
   unwritten_of : (o : Outcome) → Ends tells s old new before after o → status_at o ≡ 6 → ForSeed tells before after (λ seed. FailsToWrite tells s seed before.service after.service)
-  unwritten_of outcomes.Done e is = absurd (omega (arith, is))
-  unwritten_of outcomes.NoMemory e is = absurd (omega (arith, is))
-  unwritten_of outcomes.UnreadSeed e is = absurd (omega (arith, is))
-  unwritten_of outcomes.NoService e is = absurd (omega (arith, is))
   unwritten_of outcomes.NoJournal e is = e
-  unwritten_of outcomes.NoOutput e is = absurd (omega (arith, is))
-  unwritten_of outcomes.WrongSeed e is = absurd (omega (arith, is))
+  unwritten_of outcome e is = absurd (omega (arith, is))
 
   no_memory_of : (o : Outcome) → Ends tells s old new before after o → status_at o ≡ 3 → ForSeed tells before after (λ seed. NothingOpened before.service after.service)
-  no_memory_of outcomes.Done e is = absurd (omega (arith, is))
   no_memory_of outcomes.NoMemory e is = e
-  no_memory_of outcomes.UnreadSeed e is = absurd (omega (arith, is))
-  no_memory_of outcomes.NoService e is = absurd (omega (arith, is))
-  no_memory_of outcomes.NoJournal e is = absurd (omega (arith, is))
-  no_memory_of outcomes.NoOutput e is = absurd (omega (arith, is))
-  no_memory_of outcomes.WrongSeed e is = absurd (omega (arith, is))
+  no_memory_of outcome e is = absurd (omega (arith, is))
 
   unread_of : (o : Outcome) → Ends tells s old new before after o → status_at o ≡ 4 → HasNoSeed tells.left tells.read_faults before.seeds after.seeds × NothingOpened before.service after.service
-  unread_of outcomes.Done e is = absurd (omega (arith, is))
-  unread_of outcomes.NoMemory e is = absurd (omega (arith, is))
   unread_of outcomes.UnreadSeed e is = e
-  unread_of outcomes.NoService e is = absurd (omega (arith, is))
-  unread_of outcomes.NoJournal e is = absurd (omega (arith, is))
-  unread_of outcomes.NoOutput e is = absurd (omega (arith, is))
-  unread_of outcomes.WrongSeed e is = absurd (omega (arith, is))
+  unread_of outcome e is = absurd (omega (arith, is))
 
   wrong_seed_of : (o : Outcome) → Ends tells s old new before after o → status_at o ≡ 8 → HasWrongSize tells.left tells.read_faults before.seeds after.seeds × NothingOpened before.service after.service
-  wrong_seed_of outcomes.Done e is = absurd (omega (arith, is))
-  wrong_seed_of outcomes.NoMemory e is = absurd (omega (arith, is))
-  wrong_seed_of outcomes.UnreadSeed e is = absurd (omega (arith, is))
-  wrong_seed_of outcomes.NoService e is = absurd (omega (arith, is))
-  wrong_seed_of outcomes.NoJournal e is = absurd (omega (arith, is))
-  wrong_seed_of outcomes.NoOutput e is = absurd (omega (arith, is))
   wrong_seed_of outcomes.WrongSeed e is = e
+  wrong_seed_of outcome e is = absurd (omega (arith, is))
 
   pub stands : (words : List (List ℕ)) (o : Outcome) → Spell words s → Ends tells s old new before after o → Stands tells words (status_at o) old new before after
   stands words o spell e = record {
@@ -149,49 +96,26 @@ module _ {S D J E C : Type 0} (tells : Tells S D J E C) (s : Setting) (old new :
     whole_kept tells s seed before.service after.service _ e.run.journal,
     e.run.served.are_gates.lent_entropies.failed,
   )
-  done_kept outcomes.NoMemory e (inl is) = absurd (omega (arith, is))
-  done_kept outcomes.NoMemory e (inr is) = absurd (omega (arith, is))
-  done_kept outcomes.UnreadSeed e (inl is) = absurd (omega (arith, is))
-  done_kept outcomes.UnreadSeed e (inr is) = absurd (omega (arith, is))
-  done_kept outcomes.NoService e (inl is) = absurd (omega (arith, is))
-  done_kept outcomes.NoService e (inr is) = absurd (omega (arith, is))
-  done_kept outcomes.NoJournal e (inl is) = absurd (omega (arith, is))
-  done_kept outcomes.NoJournal e (inr is) = absurd (omega (arith, is))
   done_kept outcomes.NoOutput (seed, read, e) is = (
     seed_kept tells.left tells.read_faults before.seeds after.seeds seed read,
     doors_kept tells s seed before.service after.service _ e.run e.whole,
     whole_kept tells s seed before.service after.service _ e.run.journal,
     e.run.served.are_gates.lent_entropies.failed,
   )
-  done_kept outcomes.WrongSeed e (inl is) = absurd (omega (arith, is))
-  done_kept outcomes.WrongSeed e (inr is) = absurd (omega (arith, is))
+  done_kept outcome e (inl is) = absurd (omega (arith, is))
+  done_kept outcome e (inr is) = absurd (omega (arith, is))
 
   seed_cause : (o : Outcome) → Ends tells s old new before after o → status_at o ≡ 4 → RoseIn before.seeds after.seeds
-  seed_cause outcomes.Done e is = absurd (omega (arith, is))
-  seed_cause outcomes.NoMemory e is = absurd (omega (arith, is))
   seed_cause outcomes.UnreadSeed e is = seed_rose tells.left tells.read_faults before.seeds after.seeds e.0
-  seed_cause outcomes.NoService e is = absurd (omega (arith, is))
-  seed_cause outcomes.NoJournal e is = absurd (omega (arith, is))
-  seed_cause outcomes.NoOutput e is = absurd (omega (arith, is))
-  seed_cause outcomes.WrongSeed e is = absurd (omega (arith, is))
+  seed_cause outcome e is = absurd (omega (arith, is))
 
   door_cause : (o : Outcome) → Ends tells s old new before after o → status_at o ≡ 5 → Rose before.service.entropies.failed after.service.entropies.failed ⊎ RoseIn before.service.doors after.service.doors
-  door_cause outcomes.Done e is = absurd (omega (arith, is))
-  door_cause outcomes.NoMemory e is = absurd (omega (arith, is))
-  door_cause outcomes.UnreadSeed e is = absurd (omega (arith, is))
   door_cause outcomes.NoService e is = service_rose tells s e.0 before.service after.service e.2
-  door_cause outcomes.NoJournal e is = absurd (omega (arith, is))
-  door_cause outcomes.NoOutput e is = absurd (omega (arith, is))
-  door_cause outcomes.WrongSeed e is = absurd (omega (arith, is))
+  door_cause outcome e is = absurd (omega (arith, is))
 
   journal_cause : (o : Outcome) → Ends tells s old new before after o → status_at o ≡ 6 → RoseIn before.service.journals after.service.journals
-  journal_cause outcomes.Done e is = absurd (omega (arith, is))
-  journal_cause outcomes.NoMemory e is = absurd (omega (arith, is))
-  journal_cause outcomes.UnreadSeed e is = absurd (omega (arith, is))
-  journal_cause outcomes.NoService e is = absurd (omega (arith, is))
   journal_cause outcomes.NoJournal e is = journal_rose tells s e.0 before.service after.service e.2
-  journal_cause outcomes.NoOutput e is = absurd (omega (arith, is))
-  journal_cause outcomes.WrongSeed e is = absurd (omega (arith, is))
+  journal_cause outcome e is = absurd (omega (arith, is))
 
   pub cause : {O : Type 0} (faults : O → ℕ) (x y : O) (o : Outcome) → Ends tells s old new before after o → Prints faults o x y → StatusCause (status_at o) before after (faults x) (faults y)
   cause faults x y o e p = record {

@@ -47,23 +47,25 @@ pub record IsHired {D E C : Type 0} (desk : BookDesk) (each : ℕ) (p : Post D E
   pub door : w.door ≡ p.door
   pub entropy : w.entropy ≡ p.entropy
 
--- the worker served its door
-pub record Works {D E C : Type 0} (tell : C → Conn) (entrance : D → Entrance C) (random : E → Random) (desk : BookDesk) (v w : Worker D E C) : Type 0 where
-  pub belongs : Belongs desk w.pass
-  pub names : w.pass.view.names ≡ v.pass.view.names
-  pub stake : w.pass.view.stake ≡ v.pass.view.stake
-  pub locality : w.locality ≡ v.locality
-  pub each_is : w.each ≡ v.each
-  pub sound : Sound IsLegalFor w.pass.view
-  pub made : AllByRecursion (IsFrom (own_name w.pass.view) v.locality w.tally.connections) (history_of w.pass.view.made)
-  pub served :
-      ServesDoor tell desk.terms.capacity v.locality w.tally w.pass.view (entrance v.door).lists (entrance w.door).lists
-      (random v.entropy) (random w.entropy)
-  pub at_most : w.tally.connections ≤ v.each
-  pub whole : w.tally.connections < v.each → IsTrue w.tally.door_failed ⊎ NoneWaits (entrance w.door).lists
-  pub door_failed : OnTrue w.tally.door_failed (Rose (entrance v.door).faults (entrance w.door).faults)
-  pub door_kept : OnFalse w.tally.door_failed ((entrance w.door).faults ≡ (entrance v.door).faults)
-  pub out : (entrance w.door).out ≡ (entrance v.door).out
+module _ {D E C : Type 0} (tell : C → Conn) (entrance : D → Entrance C) (random : E → Random) (desk : BookDesk) where
+  -- the worker served its door
+  pub record Works (v w : Worker D E C) : Type 0 where
+    pub belongs : Belongs desk w.pass
+    pub names : w.pass.view.names ≡ v.pass.view.names
+    pub stake : w.pass.view.stake ≡ v.pass.view.stake
+    pub locality : w.locality ≡ v.locality
+    pub each_is : w.each ≡ v.each
+    pub sound : Sound IsLegalFor w.pass.view
+    pub made :
+        AllByRecursion (IsFrom (own_name w.pass.view) v.locality w.tally.connections) (history_of w.pass.view.made)
+    pub served :
+        ServesDoor tell desk.terms.capacity v.locality w.tally w.pass.view
+        (entrance v.door).lists (entrance w.door).lists (random v.entropy) (random w.entropy)
+    pub at_most : w.tally.connections ≤ v.each
+    pub whole : w.tally.connections < v.each → IsTrue w.tally.door_failed ⊎ NoneWaits (entrance w.door).lists
+    pub door_failed : OnTrue w.tally.door_failed (Rose (entrance v.door).faults (entrance w.door).faults)
+    pub door_kept : OnFalse w.tally.door_failed ((entrance w.door).faults ≡ (entrance v.door).faults)
+    pub out : (entrance w.door).out ≡ (entrance v.door).out
 
 -- what the worker leaves
 abbrev pub post_of : {D E C : Type 0} → Worker D E C → Post D E C

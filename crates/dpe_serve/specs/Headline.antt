@@ -31,7 +31,8 @@ abbrev pub service_by : {H D J E : Type 0} → (H → Kind D) → (H → Kind J)
 service_by doors journals entropies h = record { doors = doors h; journals = journals h; entropies = entropies h }
 
 -- a house as it tells each kind
-abbrev pub house_by : {H S D J E : Type 0} → (H → Kind S) → (H → Kind D) → (H → Kind J) → (H → Kind E) → H → HouseView S D J E
+abbrev pub house_by :
+    {H S D J E : Type 0} → (H → Kind S) → (H → Kind D) → (H → Kind J) → (H → Kind E) → H → HouseView S D J E
 house_by seeds doors journals entropies h = record { seeds = seeds h; service = service_by doors journals entropies h }
 
 -- how the objects of a house tell: a seed its bytes, a journal what it got, and each its count of faults
@@ -44,16 +45,18 @@ pub record Tells (S D J E C : Type 0) : Type 0 where
   pub entrance : D → Entrance C
   pub random : E → Random
 
-abbrev pub tells_by : {S D J E C : Type 0} → (S → Option (List ℕ)) → (S → ℕ) → (J → Option (List ℕ)) → (J → ℕ) → (C → Conn) → (D → Entrance C) → (E → Random) → Tells S D J E C
-tells_by left read_faults bytes write_faults conn entrance random = record {
-  left = left;
-  read_faults = read_faults;
-  bytes = bytes;
-  write_faults = write_faults;
-  conn = conn;
-  entrance = entrance;
-  random = random;
-}
+module _ {S D J E C : Type 0} (left : S → Option (List ℕ)) (read_faults : S → ℕ) where
+  abbrev pub tells_by :
+      (J → Option (List ℕ)) → (J → ℕ) → (C → Conn) → (D → Entrance C) → (E → Random) → Tells S D J E C
+  tells_by bytes write_faults conn entrance random = record {
+    left = left;
+    read_faults = read_faults;
+    bytes = bytes;
+    write_faults = write_faults;
+    conn = conn;
+    entrance = entrance;
+    random = random;
+  }
 
 module _ {D J E : Type 0} where
   -- nothing but the seed was opened
@@ -101,31 +104,35 @@ module _ {S D J E C : Type 0} (tells : Tells S D J E C) where
     pub none_ended : IfSome (tells.entrance door).lists (λ lists. lists.ended ≡ [])
     pub entropy_kept : entropy_faults entropy ≡ 0
 
-  -- The gates are those of the doors of the setting, each with an entropy: opened in order, and handed back in order.
-  pub record GatesOf (s : Setting) (doors doors_after : Kind D) (entropies entropies_after : Kind E) (gates : List (Gate D E)) : Type 0 where
-    pub localities : map (λ g. g.locality) gates ≡ map (λ d. d.locality) s.doors
-    pub fresh : AllByRecursion (λ g. IsOpened g.opened g.drawn_from) gates
-    pub lent_doors : LendsAll door_faults doors (map (λ g. g.opened) gates) (map (λ g. g.closed) gates) doors_after
-    pub lent_entropies :
-        LendsAll entropy_faults entropies (map (λ g. g.drawn_from) gates) (map (λ g. g.drawn_to) gates) entropies_after
+  module _ (s : Setting) (doors doors_after : Kind D) (entropies entropies_after : Kind E) where
+    -- The gates are those of the doors of the setting, each with an entropy: opened in order, and handed back in order.
+    pub record GatesOf (gates : List (Gate D E)) : Type 0 where
+      pub localities : map (λ g. g.locality) gates ≡ map (λ d. d.locality) s.doors
+      pub fresh : AllByRecursion (λ g. IsOpened g.opened g.drawn_from) gates
+      pub lent_doors : LendsAll door_faults doors (map (λ g. g.opened) gates) (map (λ g. g.closed) gates) doors_after
+      pub lent_entropies :
+          LendsAll entropy_faults entropies (map (λ g. g.drawn_from) gates) (map (λ g. g.drawn_to) gates)
+          entropies_after
 
-  -- The workers of all doors ran, and what came through their gates is this one legal history.
-  pub record ServesDoors (s : Setting) (seed : List ℕ) (H : List Entry) (doors doors_after : Kind D) (entropies entropies_after : Kind E) : Type 0 where
-    pub gates : List (Gate D E)
-    pub legal : Legal seed s.first H
-    pub few : length H ≤ s.entries
-    -- It holds the workers' commands alone; each connection is served by its own; the random bytes are the words drawn.
-    pub are_gates : GatesOf s doors doors_after entropies entropies_after gates
-    pub history : OneHistory tells.conn tells.entrance tells.random s.entries s.each H gates
-    -- Signatures, boxes and unsealed texts are computed from folded inputs, and the laws of handles hold.
-    pub folded : FoldedInputs seed s.first H
-    pub handles : HandleLaws seed s.first H
+  module _ (s : Setting) (seed : List ℕ) (H : List Entry) where
+    -- The workers of all doors ran, and what came through their gates is this one legal history.
+    pub record ServesDoors (doors doors_after : Kind D) (entropies entropies_after : Kind E) : Type 0 where
+      pub gates : List (Gate D E)
+      pub legal : Legal seed s.first H
+      pub few : length H ≤ s.entries
+      -- It holds the workers' commands alone; each connection is served by its own; the random bytes are the words drawn.
+      pub are_gates : GatesOf s doors doors_after entropies entropies_after gates
+      pub history : OneHistory tells.conn tells.entrance tells.random s.entries s.each H gates
+      -- Signatures, boxes and unsealed texts are computed from folded inputs, and the laws of handles hold.
+      pub folded : FoldedInputs seed s.first H
+      pub handles : HandleLaws seed s.first H
 
-  -- The workers of all doors ran, and the journal is that of their history.
-  pub record Serves (Writes : List ℕ → Kind J → Kind J → Type 0) (s : Setting) (seed : List ℕ) (before after : ServiceView D J E) : Type 0 where
-    pub H : List Entry
-    pub served : ServesDoors s seed H before.doors after.doors before.entropies after.entropies
-    pub journal : Writes (journal_bytes s.first H) before.journals after.journals
+  module _ (Writes : List ℕ → Kind J → Kind J → Type 0) (s : Setting) where
+    -- The workers of all doors ran, and the journal is that of their history.
+    pub record Serves (seed : List ℕ) (before after : ServiceView D J E) : Type 0 where
+      pub H : List Entry
+      pub served : ServesDoors s seed H before.doors after.doors before.entropies after.entropies
+      pub journal : Writes (journal_bytes s.first H) before.journals after.journals
 
   -- whether the door of a gate failed
   abbrev pub any_failed : List (Gate D E) → Bool
@@ -158,24 +165,26 @@ module _ {S D J E C : Type 0} (tells : Tells S D J E C) where
       EntropyUnopened (length s.doors) doors doors_after entropies entropies_after
       ⊎ DoorUnopened (length s.doors) doors doors_after entropies entropies_after
 
-  -- No worker ran, since an entropy or a door couldn't be opened. The journal is that of the empty history.
-  pub record ServesNone (Writes : List ℕ → Kind J → Kind J → Type 0) (s : Setting) (before after : ServiceView D J E) : Type 0 where
-    pub unopened : Unopened s before.doors after.doors before.entropies after.entropies
-    pub journal : Writes (journal_bytes s.first []) before.journals after.journals
+  module _ (Writes : List ℕ → Kind J → Kind J → Type 0) (s : Setting) where
+    -- No worker ran, since an entropy or a door couldn't be opened. The journal is that of the empty history.
+    pub record ServesNone (before after : ServiceView D J E) : Type 0 where
+      pub unopened : Unopened s before.doors after.doors before.entropies after.entropies
+      pub journal : Writes (journal_bytes s.first []) before.journals after.journals
 
   -- ## What stands once the seed was read
 
-  -- one legal history, and its summary was printed
-  pub record ServesOneHistory (s : Setting) (seed : List ℕ) (old new : Option (List ℕ)) (before after : ServiceView D J E) : Type 0 where
-    pub run : Serves WritesWhole s seed before after
-    pub whole : any_failed run.served.gates ≡ false
-    pub printed : Appends old new (summary_text (totals_of run.H (map (λ g. g.tally) run.served.gates)))
+  module _ (s : Setting) (seed : List ℕ) (old new : Option (List ℕ)) (before after : ServiceView D J E) where
+    -- one legal history, and its summary was printed
+    pub record ServesOneHistory : Type 0 where
+      pub run : Serves WritesWhole s seed before after
+      pub whole : any_failed run.served.gates ≡ false
+      pub printed : Appends old new (summary_text (totals_of run.H (map (λ g. g.tally) run.served.gates)))
 
-  -- the same, with a front of the summary
-  pub record ServesUnprinted (s : Setting) (seed : List ℕ) (old new : Option (List ℕ)) (before after : ServiceView D J E) : Type 0 where
-    pub run : Serves WritesWhole s seed before after
-    pub whole : any_failed run.served.gates ≡ false
-    pub printed : AppendsFront old new (summary_text (totals_of run.H (map (λ g. g.tally) run.served.gates)))
+    -- the same, with a front of the summary
+    pub record ServesUnprinted : Type 0 where
+      pub run : Serves WritesWhole s seed before after
+      pub whole : any_failed run.served.gates ≡ false
+      pub printed : AppendsFront old new (summary_text (totals_of run.H (map (λ g. g.tally) run.served.gates)))
 
   -- a door failed
   pub record ServesInPart (s : Setting) (seed : List ℕ) (before after : ServiceView D J E) : Type 0 where
@@ -206,18 +215,21 @@ module _ {S D J E C : Type 0} (tells : Tells S D J E C) where
   Headline words old new before after =
       ForRun words before after (λ s seed. ServesOneHistory s seed old new before.service after.service)
 
-  -- What stands at the statuses 3 to 8.
-  pub record Stands (words : List (List ℕ)) (status : ℕ) (old new : Option (List ℕ)) (before after : HouseView S D J E) : Type 0 where
-    pub unprinted :
-        status ≡ 7 → ForRun words before after (λ s seed. ServesUnprinted s seed old new before.service after.service)
-    pub unserved : status ≡ 5 → ForRun words before after (λ s seed. FailsToServe s seed before.service after.service)
-    pub unwritten : status ≡ 6 → ForRun words before after (λ s seed. FailsToWrite s seed before.service after.service)
-    pub no_memory : status ≡ 3 → ForRun words before after (λ s seed. NothingOpened before.service after.service)
-    pub unread :
-        status ≡ 4
-        → ForSetting words
-        (λ s. HasNoSeed tells.left tells.read_faults before.seeds after.seeds × NothingOpened before.service after.service)
-    pub wrong_seed :
-        status ≡ 8
-        → ForSetting words
-        (λ s. HasWrongSize tells.left tells.read_faults before.seeds after.seeds × NothingOpened before.service after.service)
+  module _ (words : List (List ℕ)) (status : ℕ) (old new : Option (List ℕ)) where
+    -- What stands at the statuses 3 to 8.
+    pub record Stands (before after : HouseView S D J E) : Type 0 where
+      pub unprinted :
+          status ≡ 7 → ForRun words before after (λ s seed. ServesUnprinted s seed old new before.service after.service)
+      pub unserved : status ≡ 5 → ForRun words before after (λ s seed. FailsToServe s seed before.service after.service)
+      pub unwritten : status ≡ 6 → ForRun words before after (λ s seed. FailsToWrite s seed before.service after.service)
+      pub no_memory : status ≡ 3 → ForRun words before after (λ s seed. NothingOpened before.service after.service)
+      pub unread :
+          status ≡ 4
+          → ForSetting words
+          (λ s. HasNoSeed tells.left tells.read_faults before.seeds after.seeds
+          × NothingOpened before.service after.service)
+      pub wrong_seed :
+          status ≡ 8
+          → ForSetting words
+          (λ s. HasWrongSize tells.left tells.read_faults before.seeds after.seeds
+          × NothingOpened before.service after.service)

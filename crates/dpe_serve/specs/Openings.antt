@@ -8,10 +8,16 @@ use Rattle.dpe_serve.specs.declared.crew.Post.{Post}
 abbrev pub locality_of : {D E C : Type 0} → Post D E C → ℕ
 locality_of p = p.locality
 
--- the post's door and entropy were opened
-pub record OpensPost {D E C : Type 0} (doors : Kind D) (entropies : Kind E) (doors_new : Kind D) (entropies_new : Kind E) (post : Post D E C) : Type 0 where
-  pub door : Opens doors post.door doors_new
-  pub entropy : Opens entropies post.entropy entropies_new
+module _ {D E C : Type 0} (doors : Kind D) (entropies : Kind E) where
+  -- the post's door and entropy were opened
+  pub record OpensPost (doors_new : Kind D) (entropies_new : Kind E) (post : Post D E C) : Type 0 where
+    pub door : Opens doors post.door doors_new
+    pub entropy : Opens entropies post.entropy entropies_new
+
+  -- the doors and entropies of all posts were opened
+  pub record OpensPosts (posts : List (Post D E C)) (doors_new : Kind D) (entropies_new : Kind E) : Type 0 where
+    pub doors_opened : OpensAll doors (map (λ p. p.door) posts) doors_new
+    pub entropies_opened : OpensAll entropies (map (λ p. p.entropy) posts) entropies_new
 
 -- the entropy couldn't be opened, or the door couldn't, and the entropy has no fault
 abbrev pub OpensNoPost : {D E : Type 0} → (E → ℕ) → Kind D → Kind E → Kind D → Kind E → Option E → Type 0
@@ -27,14 +33,10 @@ pub record IsNewPost {D E C : Type 0} (entrance : D → Entrance C) (faults : E 
   pub entropy_kept : faults post.entropy ≡ 0
   pub untold : post.tally ≡ record { connections = 0; full = 0; cut = 0; door_failed = false }
 
--- the doors and entropies of all posts were opened
-pub record OpensPosts {D E C : Type 0} (doors : Kind D) (entropies : Kind E) (posts : List (Post D E C)) (doors_new : Kind D) (entropies_new : Kind E) : Type 0 where
-  pub doors_opened : OpensAll doors (map (λ p. p.door) posts) doors_new
-  pub entropies_opened : OpensAll entropies (map (λ p. p.entropy) posts) entropies_new
-
 -- The doors and entropies of the posts were opened, and then an opening failed: of an entropy, or of a door, whose entropy
 -- was opened and has no fault.
-abbrev pub OpensNoPosts : {D E C : Type 0} → (E → ℕ) → Kind D → Kind E → List (Post D E C) → Kind D → Kind E → Option E → Type 0
+abbrev pub OpensNoPosts :
+    {D E C : Type 0} → (E → ℕ) → Kind D → Kind E → List (Post D E C) → Kind D → Kind E → Option E → Type 0
 OpensNoPosts faults doors entropies posts doors_new entropies_new None =
     OpensAll doors (map (λ p. p.door) posts) doors_new × OpensUntil entropies (map (λ p. p.entropy) posts) entropies_new
 OpensNoPosts faults doors entropies posts doors_new entropies_new (Some entropy) =

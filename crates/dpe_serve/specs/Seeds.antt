@@ -52,7 +52,7 @@ module _ {S : Type 0} (left : S → Option (List ℕ)) (faults : S → ℕ) wher
     pub few : TakesFew (left source) (left after)
     pub rose : Rose 0 (faults after)
 
-  -- the seed couldn't be opened, or not read
+  -- the seed couldn't be opened or read
   abbrev pub HasNoSeed : Kind S → Kind S → Type 0
   HasNoSeed old new = OpensNone old new ⊎ IsUnread old new
 

@@ -57,11 +57,12 @@ module _ {S D J E : Type 0} where
   NextSeed left house seed =
       (first : S) × (later : List S) × (house.seeds.unopened ≡ Some (first ∷ later)) × (left first ≡ Some seed)
 
-  -- Words of the form, a seed of 32 bytes and no count that rose: the status is 0 or 3. Another seed: it is 8.
-  pub record Completes (left : S → Option (List ℕ)) (words : List (List ℕ)) (status : ℕ) (before after : HouseView S D J E) (out_before out_after : ℕ) : Type 0 where
-    pub served :
-        (s : Setting) (seed : List ℕ) → Spell words s → NextSeed left before seed → length seed ≡ 32 →
-        ¬ AnyRose before after → ¬ Rose out_before out_after → (status ≡ 0) ⊎ (status ≡ 3)
-    pub wrong_seed :
-        (s : Setting) (seed : List ℕ) → Spell words s → NextSeed left before seed → length seed ≢ 32 →
-        ¬ RoseIn before.seeds after.seeds → status ≡ 8
+  module _ (left : S → Option (List ℕ)) (words : List (List ℕ)) (status : ℕ) where
+    -- Words of the form, a seed of 32 bytes and no count that rose: the status is 0 or 3. Another seed: it is 8.
+    pub record Completes (before after : HouseView S D J E) (out_before out_after : ℕ) : Type 0 where
+      pub served :
+          (s : Setting) (seed : List ℕ) → Spell words s → NextSeed left before seed → length seed ≡ 32 →
+          ¬ AnyRose before after → ¬ Rose out_before out_after → (status ≡ 0) ⊎ (status ≡ 3)
+      pub wrong_seed :
+          (s : Setting) (seed : List ℕ) → Spell words s → NextSeed left before seed → length seed ≢ 32 →
+          ¬ RoseIn before.seeds after.seeds → status ≡ 8

@@ -18,7 +18,7 @@ pub(crate) enum SeedRead {
     Holds([u8; SEED_SIZE]),
     /// More or fewer bytes.
     WrongSize,
-    /// It couldn't be opened, or not read.
+    /// It couldn't be opened or read.
     Unread,
 }
 

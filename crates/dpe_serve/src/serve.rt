@@ -40,11 +40,11 @@ enum Outcome {
     /// All doors were served, the journal written, and the summary printed.
     Done,
     NoMemory,
-    /// The seed couldn't be opened, or not read.
+    /// The seed couldn't be opened or read.
     UnreadSeed,
     /// A door or an entropy couldn't be opened, or a door failed later. The journal was written.
     NoService,
-    /// The journal couldn't be opened, or not written.
+    /// The journal couldn't be opened or written.
     NoJournal,
     /// All but the summary was written.
     NoOutput,
@@ -449,7 +449,7 @@ where
         (house_by H.seeds H.doors H.journals H.entropies house.old)
         (house_by H.seeds H.doors H.journals H.entropies house.new) }
 
-    // 4 to 7 come only where a count rose that may bring them; 0 and 7 only where none of an opening, a seed, a door or a journal did.
+    // 4 to 7 come only where a count rose that may bring them; 0 and 7 only where no opening, seed, door or journal failed.
     ensures cause { StatusCause result
         (house_by H.seeds H.doors H.journals H.entropies house.old)
         (house_by H.seeds H.doors H.journals H.entropies house.new) (O.faults out.old) (O.faults out.new) }
