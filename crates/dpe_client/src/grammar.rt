@@ -63,32 +63,21 @@ fn has_only(words: &[&[u8]], keys: &[&[u8]]) -> bool
 fn first_name<'a, 'w>(words: &'w [&'a [u8]]) -> Option<(&'a [u8], &'w [&'a [u8]])>
     ensures { option_map (λ p. (p.0.now, texts p.1.now)) result ≡ first_name_of (texts words.now) }
 {
-    match words.split_first() {
-        None => None,
-        Some((word, others)) => match parse_name(word) {
-            None => None,
-            Some(name) => Some((name, others)),
-        },
-    }
+    let (word, others) = words.split_first()?;
+    Some((parse_name(word)?, others))
 }
 
 fn inline_config<'a>(text: &'a [u8]) -> Option<Config<'a>>
     ensures { option_map config_of result ≡ option_map inline (bytes_within 64 64 text.now) }
 {
-    match parse_input(text) {
-        None => None,
-        Some(input) => Some(Config::Inline(input)),
-    }
+    Some(Config::Inline(parse_input(text)?))
 }
 
 fn descriptor_config<'a>(text: &'a [u8]) -> Option<Config<'a>>
     ensures value { option_map config_of result ≡ option_map descriptor (bytes_within 0 1024 text.now) }
     ensures range { IfSome result (λ config. IsShort (config_of config)) }
 {
-    match bytes_in(text, 0, MAX_DESCRIPTOR) {
-        None => None,
-        Some(value) => Some(Config::Descriptor(value)),
-    }
+    Some(Config::Descriptor(bytes_in(text, 0, MAX_DESCRIPTOR)?))
 }
 
 // Just one of the inline configuration and the descriptor.
@@ -132,9 +121,7 @@ fn read_initialize<'a>(words: &[&'a [u8]]) -> Option<Act<'a>>
     ensures act { option_map act_of result ≡ initialize_in (texts words.now) }
     ensures range { IfSome result (λ act. IsInRange (act_of act)) }
 {
-    let Some((fresh, others)) = first_name(words) else {
-        return None;
-    };
+    let (fresh, others) = first_name(words)?;
     if others.is_empty() {
         return Some(Act::Initialize { fresh });
     }
@@ -145,16 +132,9 @@ fn read_derive<'a>(words: &[&'a [u8]]) -> Option<Act<'a>>
     ensures act { option_map act_of result ≡ derive_in (texts words.now) }
     ensures range { IfSome result (λ act. IsInRange (act_of act)) }
 {
-    let Some((old, others)) = first_name(words) else {
-        return None;
-    };
-    let Some((fresh, options)) = first_name(others) else {
-        return None;
-    };
-    match derive_options(old, fresh, options) {
-        Some(derive) => Some(Act::Derive(derive)),
-        None => None,
-    }
+    let (old, others) = first_name(words)?;
+    let (fresh, options) = first_name(others)?;
+    Some(Act::Derive(derive_options(old, fresh, options)?))
 }
 
 // The arguments of `derive`, behind its two names.
@@ -162,30 +142,14 @@ fn derive_options<'a>(old: &'a [u8], fresh: &'a [u8], options: &[&'a [u8]]) -> O
     ensures act { option_map derive_line result ≡ derive_options_in old.now fresh.now (texts options.now) }
     ensures range { IfSome result (λ d. IsDeriveInRange (derive_line d)) }
 {
-    let Some(code) = input_at(options, b"code=") else {
-        return None;
-    };
-    let Some(config) = config_at(options) else {
-        return None;
-    };
-    let Some(authority) = input_at(options, b"authority=") else {
-        return None;
-    };
-    let Some(mode) = number_at(options, b"mode=", MAX_MODE) else {
-        return None;
-    };
-    let Some(hidden) = optional_input(options, b"hidden=") else {
-        return None;
-    };
-    let Some(keep) = keep_at(options) else {
-        return None;
-    };
-    let Some(locality) = optional_number(options, b"locality=", MAX_LOCALITY) else {
-        return None;
-    };
-    let Some(is_final) = flag(options, b"final") else {
-        return None;
-    };
+    let code = input_at(options, b"code=")?;
+    let config = config_at(options)?;
+    let authority = input_at(options, b"authority=")?;
+    let mode = number_at(options, b"mode=", MAX_MODE)?;
+    let hidden = optional_input(options, b"hidden=")?;
+    let keep = keep_at(options)?;
+    let locality = optional_number(options, b"locality=", MAX_LOCALITY)?;
+    let is_final = flag(options, b"final")?;
     if !has_only(options, &DERIVE_KEYS) {
         return None;
     }
@@ -207,18 +171,10 @@ fn read_sign<'a>(words: &[&'a [u8]]) -> Option<Act<'a>>
     ensures act { option_map act_of result ≡ sign_in (texts words.now) }
     ensures range { IfSome result (λ act. IsInRange (act_of act)) }
 {
-    let Some((old, options)) = first_name(words) else {
-        return None;
-    };
-    let Some(message) = bytes_at(options, b"message=", 0, MAX_MESSAGE) else {
-        return None;
-    };
-    let Some(label) = label_at(options) else {
-        return None;
-    };
-    let Some(keep) = keep_at(options) else {
-        return None;
-    };
+    let (old, options) = first_name(words)?;
+    let message = bytes_at(options, b"message=", 0, MAX_MESSAGE)?;
+    let label = label_at(options)?;
+    let keep = keep_at(options)?;
     if !has_only(options, &[b"message=", b"label=", b"keep="]) {
         return None;
     }
@@ -234,27 +190,13 @@ fn read_seal<'a>(words: &[&'a [u8]]) -> Option<Act<'a>>
     ensures act { option_map act_of result ≡ seal_in (texts words.now) }
     ensures range { IfSome result (λ act. IsInRange (act_of act)) }
 {
-    let Some((old, others)) = first_name(words) else {
-        return None;
-    };
-    let Some((sealed, options)) = first_name(others) else {
-        return None;
-    };
-    let Some(plain) = bytes_at(options, b"plain=", 0, MAX_MESSAGE) else {
-        return None;
-    };
-    let Some(label) = label_at(options) else {
-        return None;
-    };
-    let Some(localities) = number_or(options, b"localities=", ALL_LOCALITIES, ALL_LOCALITIES) else {
-        return None;
-    };
-    let Some(modes) = number_or(options, b"modes=", ALL_MODES, ALL_MODES) else {
-        return None;
-    };
-    let Some(keep) = keep_at(options) else {
-        return None;
-    };
+    let (old, others) = first_name(words)?;
+    let (sealed, options) = first_name(others)?;
+    let plain = bytes_at(options, b"plain=", 0, MAX_MESSAGE)?;
+    let label = label_at(options)?;
+    let localities = number_or(options, b"localities=", ALL_LOCALITIES, ALL_LOCALITIES)?;
+    let modes = number_or(options, b"modes=", ALL_MODES, ALL_MODES)?;
+    let keep = keep_at(options)?;
     if !has_only(
         options,
         &[b"plain=", b"label=", b"localities=", b"modes=", b"keep="],
@@ -276,18 +218,10 @@ fn read_unseal<'a>(words: &[&'a [u8]]) -> Option<Act<'a>>
     ensures act { option_map act_of result ≡ unseal_in (texts words.now) }
     ensures range { IfSome result (λ act. IsInRange (act_of act)) }
 {
-    let Some((old, others)) = first_name(words) else {
-        return None;
-    };
-    let Some((sealed, options)) = first_name(others) else {
-        return None;
-    };
-    let Some(label) = label_at(options) else {
-        return None;
-    };
-    let Some(keep) = keep_at(options) else {
-        return None;
-    };
+    let (old, others) = first_name(words)?;
+    let (sealed, options) = first_name(others)?;
+    let label = label_at(options)?;
+    let keep = keep_at(options)?;
     if !has_only(options, &[b"label=", b"keep="]) {
         return None;
     }
@@ -303,12 +237,8 @@ fn read_rotate<'a>(words: &[&'a [u8]]) -> Option<Act<'a>>
     ensures act { option_map act_of result ≡ rotate_in (texts words.now) }
     ensures range { IfSome result (λ act. IsInRange (act_of act)) }
 {
-    let Some((old, others)) = first_name(words) else {
-        return None;
-    };
-    let Some((fresh, rest)) = first_name(others) else {
-        return None;
-    };
+    let (old, others) = first_name(words)?;
+    let (fresh, rest) = first_name(others)?;
     if rest.is_empty() {
         return Some(Act::Rotate { old, fresh });
     }
@@ -334,12 +264,8 @@ fn read_destroy<'a>(words: &[&'a [u8]]) -> Option<Act<'a>>
     ensures act { option_map act_of result ≡ destroy_in (texts words.now) }
     ensures range { IfSome result (λ act. IsInRange (act_of act)) }
 {
-    let Some((old, others)) = first_name(words) else {
-        return None;
-    };
-    let Some(recursive) = read_recursive(others) else {
-        return None;
-    };
+    let (old, others) = first_name(words)?;
+    let recursive = read_recursive(others)?;
     Some(Act::Destroy { old, recursive })
 }
 
@@ -347,18 +273,11 @@ fn read_raw<'a>(words: &[&'a [u8]]) -> Option<Act<'a>>
     ensures act { option_map act_of result ≡ raw_in (texts words.now) }
     ensures range { IfSome result (λ act. IsInRange (act_of act)) }
 {
-    match words.split_first() {
-        None => None,
-        Some((word, others)) => {
-            if !others.is_empty() {
-                return None;
-            }
-            match bytes_in(word, 0, MAX_RAW) {
-                None => None,
-                Some(value) => Some(Act::Raw(value)),
-            }
-        }
+    let (word, others) = words.split_first()?;
+    if !others.is_empty() {
+        return None;
     }
+    Some(Act::Raw(bytes_in(word, 0, MAX_RAW)?))
 }
 
 // The command of this name.
@@ -417,17 +336,9 @@ pub fn read_asking<'a>(words: &[&'a [u8]], links: u8) -> Option<Asking<'a>>
     ensures range { IfSome result (λ asking. IsInRange (act_of asking.act)) }
     ensures link { IfSome result (λ asking. asking.link < links) }
 {
-    let Some((link, others)) = words.split_first() else {
-        return None;
-    };
-    let Some((command, arguments)) = others.split_first() else {
-        return None;
-    };
-    let Some(link) = read_link(link, links) else {
-        return None;
-    };
-    match read_act(command, arguments) {
-        None => None,
-        Some(act) => Some(Asking { link, act }),
-    }
+    let (link, others) = words.split_first()?;
+    let (command, arguments) = others.split_first()?;
+    let link = read_link(link, links)?;
+    let act = read_act(command, arguments)?;
+    Some(Asking { link, act })
 }

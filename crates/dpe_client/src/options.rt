@@ -74,10 +74,7 @@ pub fn bytes_at<'a>(words: &[&'a [u8]], key: &[u8], least: usize, most: usize) -
     ensures value { option_map value_of result ≡ bytes_behind key.now least most (texts words.now) }
     ensures size { IfSome result (λ v. HasSize least most (value_of v)) }
 {
-    match value_at(words, key) {
-        None => None,
-        Some(text) => bytes_in(text, least, most),
-    }
+    bytes_in(value_at(words, key)?, least, most)
 }
 
 /// The byte string behind a key, or no bytes where the key is absent.
@@ -96,24 +93,17 @@ pub fn bytes_or_none<'a>(words: &[&'a [u8]], key: &[u8], most: usize) -> Option<
 pub fn parse_input(text: &[u8]) -> Option<[u8; 64]>
     ensures { result ≡ sized_bytes 64 64 text.now }
 {
-    match bytes_in(text, 64, 64) {
-        None => None,
-        Some(value) => {
-            let mut input = [0; 64];
-            decode(&value, &mut input);
-            Some(input)
-        }
-    }
+    let value = bytes_in(text, 64, 64)?;
+    let mut input = [0; 64];
+    decode(&value, &mut input);
+    Some(input)
 }
 
 /// The input behind a key that has to be there.
 pub fn input_at(words: &[&[u8]], key: &[u8]) -> Option<[u8; 64]>
     ensures { result ≡ bytes_behind key.now 64 64 (texts words.now) }
 {
-    match value_at(words, key) {
-        None => None,
-        Some(text) => parse_input(text),
-    }
+    parse_input(value_at(words, key)?)
 }
 
 /// The input behind a key that may be absent.
@@ -122,10 +112,7 @@ pub fn optional_input(words: &[&[u8]], key: &[u8]) -> Option<Option<[u8; 64]>>
 {
     match value_at(words, key) {
         None => Some(None),
-        Some(text) => match parse_input(text) {
-            None => None,
-            Some(input) => Some(Some(input)),
-        },
+        Some(text) => Some(Some(parse_input(text)?)),
     }
 }
 
@@ -133,10 +120,7 @@ pub fn optional_input(words: &[&[u8]], key: &[u8]) -> Option<Option<[u8; 64]>>
 pub fn number_at(words: &[&[u8]], key: &[u8], most: u8) -> Option<u8>
     ensures { result ≡ number_behind key.now most (texts words.now) }
 {
-    match value_at(words, key) {
-        None => None,
-        Some(text) => parse_up_to(text, most),
-    }
+    parse_up_to(value_at(words, key)?, most)
 }
 
 /// The number behind a key, or the default where the key is absent.
@@ -155,10 +139,7 @@ pub fn optional_number(words: &[&[u8]], key: &[u8], most: u8) -> Option<Option<u
 {
     match value_at(words, key) {
         None => Some(None),
-        Some(text) => match parse_up_to(text, most) {
-            None => None,
-            Some(number) => Some(Some(number)),
-        },
+        Some(text) => Some(Some(parse_up_to(text, most)?)),
     }
 }
 
@@ -168,10 +149,7 @@ pub fn optional_name<'a>(words: &[&'a [u8]], key: &[u8]) -> Option<Option<&'a [u
 {
     match value_at(words, key) {
         None => Some(None),
-        Some(text) => match parse_name(text) {
-            None => None,
-            Some(name) => Some(Some(name)),
-        },
+        Some(text) => Some(Some(parse_name(text)?)),
     }
 }
 
