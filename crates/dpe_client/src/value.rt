@@ -117,12 +117,8 @@ fn decode_digits(digits: &[u8], room: &mut [u8]) -> usize
 fn are_name_bytes(text: &[u8]) -> bool
     ensures { result ≡ list_all is_name_byte text.now }
 {
-    for byte in text {
-        if !matches!(*byte, b'a'..=b'z' | b'0'..=b'9') {
-            return false;
-        }
-    }
-    true
+    text.iter()
+        .all(|byte| matches!(*byte, b'a'..=b'z' | b'0'..=b'9'))
 }
 
 /// A word of 1 to 32 characters out of `a` to `z` and `0` to `9`.
