@@ -56,7 +56,7 @@ pub data Act : Type 0 where
   destroy : List ℕ → Bool → Act
   raw : List ℕ → Act
 
--- ---- the commands as the code has them
+-- ## The commands as the code has them
 
 abbrev pub config_of : Config → Configuration
 config_of (configs.Inline b) = inline b
@@ -114,7 +114,7 @@ act_of (acts.Rotate old fresh) = rotate old.now fresh.now
 act_of (acts.Destroy old recursive) = destroy old.now recursive
 act_of (acts.Raw v) = raw (value_of v)
 
--- ---- ranges that the types don't keep
+-- ## Ranges that the types don't keep
 
 abbrev pub IsShort : Configuration → Type 0
 IsShort (inline b) = Unit {0}

@@ -1,5 +1,5 @@
 -- The client's top call: its words, what it opens and hands back, and how it ends.
-use Rattle.std.specs.Prelude.{◌≡◌, ℕ, ◌+◌, ◌-◌, ◌<◌, ◌≤◌, Bool, ◌&&◌, nat_le, nat_lt, List, [], ◌∷◌, ◌++◌, length, slice_index_or, codes, Option, Some, ◌⊎◌, Result, MatchResult}
+use Rattle.std.specs.Prelude.{◌≡◌, ℕ, ◌+◌, ◌-◌, ◌<◌, ◌≤◌, Bool, ◌&&◌, nat_le, nat_lt, List, [], ◌∷◌, ◌++◌, length, codes, Option, Some, ◌⊎◌, Result, MatchResult}
 use Rattle.std.specs.List.{list_all}
 use Rattle.std.specs.Fmt.{decimal}
 use Rattle.std.specs.Io.KnownBytes.{Consumes, Appends, IsAtEnd}
@@ -7,14 +7,14 @@ use Rattle.dpe_io.specs.Causes.{Rose}
 use Rattle.dpe_io.specs.Told.{Kind, Opens, OpensNone, Returns, Placed}
 use Rattle.dpe_client.specs.Script.{Line, Script, right, bad_line, script_of, max_script}
 use Rattle.dpe_client.specs.Meaning.{Answer, got}
-use Rattle.dpe_client.specs.Run.{Told, AppendsFront, AreAnswers, RunsWhole, StopsAtLink, StopsAtReply, StopsPrinting}
+use Rattle.dpe_client.specs.Run.{Told, told_at, AppendsFront, AreAnswers, RunsWhole, StopsAtLink, StopsAtReply, StopsPrinting}
 use Rattle.dpe_client.specs.declared.run.Cause.TheVariants.{Link, Reply, Output}
 use Rattle.dpe_client.specs.declared.run.LineFault.{LineFault}
 use Rattle.dpe_client.specs.declared.run.Cause.{Cause}
 use Rattle.dpe_client.specs.declared.end.End.{End}
 use Rattle.dpe_client.specs.declared.end.End.TheVariants.{Done, NoMemory, NoScript, BadScript, LinkFault, BadReply, OutputFault}
 
--- ---- words
+-- ## Words
 
 -- a path that isn't empty
 abbrev pub is_path : List ℕ → Bool
@@ -28,7 +28,7 @@ are_right words = nat_le 2 (length words) && (nat_le (length words) 9 && list_al
 abbrev pub links_in : List (List ℕ) → ℕ
 links_in words = length words - 1
 
--- ---- what is printed of a fault
+-- ## What is printed of a fault
 
 abbrev pub bad_line_said : ℕ → List ℕ
 bad_line_said number = codes "line " ++ decimal number ++ codes "\n"
@@ -36,7 +36,7 @@ bad_line_said number = codes "line " ++ decimal number ++ codes "\n"
 abbrev pub fault_said : ℕ → List ℕ → List ℕ
 fault_said number what = codes "line " ++ decimal number ++ codes " " ++ what ++ codes "\n"
 
--- ---- counts of a kind of objects
+-- ## Counts of a kind of objects
 
 -- an opening failed, or an object that was handed back had failed
 abbrev pub KindFailed : {T : Type 0} → Kind T → Kind T → Type 0
@@ -48,18 +48,7 @@ KindKept old new = (new.failed ≡ old.failed) × (new.faults ≡ old.faults)
 abbrev pub HasKindCause : {T U E : Type 0} → Result U E → Kind T → Kind T → Type 0
 HasKindCause result old new = MatchResult result (λ _. KindKept old new) (λ _. KindFailed old new)
 
--- ---- the script
-
--- A file was opened and handed back, and this text was taken of it: all of it, or as much as there is room for.
-pub record Loads {F : Type 0} (left : F → Option (List ℕ)) (faults : F → ℕ) (room : ℕ) (old new : Kind F) (text : List ℕ) : Type 0 where
-  pub opened : F
-  pub closed : F
-  pub mid : Kind F
-  pub opens : Opens old opened mid
-  pub returns : Returns mid (faults closed) closed new
-  pub read : Consumes (left opened) (left closed) text
-  pub few : length text ≤ room
-  pub whole : length text < room → IsAtEnd (left closed)
+-- ## The script
 
 -- P of the lines of a script that is right
 abbrev pub IfRight : Script → (List Line → Type 0) → Type 0
@@ -71,7 +60,29 @@ abbrev pub IfBad : Script → (ℕ → Type 0) → Type 0
 IfBad (right lines) P = ⊥
 IfBad (bad_line number) P = P number
 
--- ---- the links
+module _ {F : Type 0} (left : F → Option (List ℕ)) (faults : F → ℕ) where
+  -- A file was opened and handed back, and this text was taken of it: all of it, or as much as there is room for.
+  pub record Loads (room : ℕ) (old new : Kind F) (text : List ℕ) : Type 0 where
+    pub opened : F
+    pub closed : F
+    pub mid : Kind F
+    pub opens : Opens old opened mid
+    pub returns : Returns mid (faults closed) closed new
+    pub read : Consumes (left opened) (left closed) text
+    pub few : length text ≤ room
+    pub whole : length text < room → IsAtEnd (left closed)
+
+  -- The script that the words name was read, and has P for the number of links.
+  pub record ForScript (words : List (List ℕ)) (old new : Kind F) (P : ℕ → Script → Type 0) : Type 0 where
+    pub text : List ℕ
+    pub loads : Loads (max_script + 1) old new text
+    pub holds : P (links_in words) (script_of (links_in words) text)
+
+  -- a right script was read, and has P, of the number of links and of its lines
+  abbrev pub ForLines : List (List ℕ) → Kind F → Kind F → (ℕ → List Line → Type 0) → Type 0
+  ForLines words old new P = ForScript words old new (λ count script. IfRight script (λ lines. P count lines))
+
+-- ## The links
 
 -- these objects were opened, one after the other
 abbrev pub AllOpen : {T : Type 0} → Kind T → List T → Kind T → Type 0
@@ -113,7 +124,7 @@ pub record OpensFewer {L : Type 0} (told : L → Told) (count : ℕ) (old new : 
   pub opens : OpensFront count old opened mid
   pub returns : AllReturn told 0 mid opened new
 
--- ---- ends
+-- ## Ends
 
 module _ {L : Type 0} (told : L → Told) (count : ℕ) (lines : List Line) (old new : Kind L) (out_old out_new : Option (List ℕ)) where
   -- each line was answered, and all was printed
@@ -135,34 +146,38 @@ module _ {L : Type 0} (told : L → Told) (count : ℕ) (lines : List Line) (old
   EndsAtReply number = OnLinks told count old new (λ opened closed. StopsAtReply told lines opened closed out_old out_new number)
 
 -- the same, and then P of the text on it
-module _ {L : Type 0} (P : Option (List ℕ) → Option (List ℕ) → List ℕ → Type 0) (told : L → Told) (count : ℕ) (lines : List Line) (old new : Kind L) (out_old out_new : Option (List ℕ)) where
-  pub record FailsAtLink : Type 0 where
-    pub number : ℕ
-    pub answered : Option (List ℕ)
-    pub ends : EndsAtLink told count lines old new out_old answered number
-    pub text : P answered out_new (fault_said number (codes "link"))
+module _ {L : Type 0} (P : Option (List ℕ) → Option (List ℕ) → List ℕ → Type 0) (told : L → Told) (count : ℕ) where
+  module _ (lines : List Line) (old new : Kind L) (out_old out_new : Option (List ℕ)) where
+    pub record FailsAtLink : Type 0 where
+      pub number : ℕ
+      pub answered : Option (List ℕ)
+      pub ends : EndsAtLink told count lines old new out_old answered number
+      pub text : P answered out_new (fault_said number (codes "link"))
 
-  pub record FailsAtReply : Type 0 where
-    pub number : ℕ
-    pub answered : Option (List ℕ)
-    pub ends : EndsAtReply told count lines old new out_old answered number
-    pub text : P answered out_new (fault_said number (codes "reply"))
+    pub record FailsAtReply : Type 0 where
+      pub number : ℕ
+      pub answered : Option (List ℕ)
+      pub ends : EndsAtReply told count lines old new out_old answered number
+      pub text : P answered out_new (fault_said number (codes "reply"))
 
 -- the output failed within the text of the answers, or within that on a fault of a link or of a reply
-pub data FailsPrinting {L : Type 0} (told : L → Told) (count : ℕ) (lines : List Line) (old new : Kind L) (out_old out_new : Option (List ℕ)) : Type 0 where
+pub data FailsPrinting {L : Type 0} (told : L → Told) (count : ℕ) (lines : List Line) (old new : Kind L)
+    (out_old out_new : Option (List ℕ)) : Type 0 where
   in_answers : FailsInAnswers told count lines old new out_old out_new → FailsPrinting told count lines old new out_old out_new
   at_link : FailsAtLink AppendsFront told count lines old new out_old out_new → FailsPrinting told count lines old new out_old out_new
   at_reply : FailsAtReply AppendsFront told count lines old new out_old out_new → FailsPrinting told count lines old new out_old out_new
 
--- how the lines end on the links where they don't run whole
-abbrev pub LinesStop : {L : Type 0} → (L → Told) → ℕ → List Line → Kind L → Kind L → Option (List ℕ) → Option (List ℕ) → Cause → ℕ → Type 0
-LinesStop told count lines old new out_old out_new Link number = EndsAtLink told count lines old new out_old out_new number
-LinesStop told count lines old new out_old out_new Reply number = EndsAtReply told count lines old new out_old out_new number
-LinesStop told count lines old new out_old out_new Output number = FailsInAnswers told count lines old new out_old out_new
+module _ {L : Type 0} (told : L → Told) (count : ℕ) (lines : List Line) (old new : Kind L) (out_old out_new : Option (List ℕ)) where
+  -- how the lines end on the links where they don't run whole
+  abbrev pub LinesStop : Cause → ℕ → Type 0
+  LinesStop Link number = EndsAtLink told count lines old new out_old out_new number
+  LinesStop Reply number = EndsAtReply told count lines old new out_old out_new number
+  LinesStop Output number = FailsInAnswers told count lines old new out_old out_new
 
-abbrev pub LinesEnd : {L U : Type 0} → (L → Told) → ℕ → List Line → Kind L → Kind L → Option (List ℕ) → Option (List ℕ) → Result U LineFault → Type 0
-LinesEnd told count lines old new out_old out_new result =
-    MatchResult result (λ _. RunsOnLinks told count lines old new out_old out_new) (λ fault. LinesStop told count lines old new out_old out_new fault.cause fault.line)
+  abbrev pub LinesEnd : {U : Type 0} → Result U LineFault → Type 0
+  LinesEnd result =
+      MatchResult result (λ _. RunsOnLinks told count lines old new out_old out_new)
+      (λ fault. LinesStop fault.cause fault.line)
 
 -- the counts that rose at that: of the links, or of the output
 abbrev pub LinesCausedBy : {L : Type 0} → Cause → Kind L → Kind L → ℕ → ℕ → Type 0
@@ -172,17 +187,20 @@ LinesCausedBy Output old new out_old out_new = KindKept old new × Rose out_old 
 
 abbrev pub HasLinesCause : {L U : Type 0} → Result U LineFault → Kind L → Kind L → ℕ → ℕ → Type 0
 HasLinesCause result old new out_old out_new =
-    MatchResult result (λ _. KindKept old new × (out_new ≡ out_old)) (λ fault. LinesCausedBy fault.cause old new out_old out_new)
+    MatchResult result (λ _. KindKept old new × (out_new ≡ out_old))
+    (λ fault. LinesCausedBy fault.cause old new out_old out_new)
 
--- ---- the end of a run, for the script that was read
+-- ## The end of a run, for the script that was read
 
 -- the output failed, within the text of the answers or on a fault, or within that on a bad line
 abbrev pub Unprinted : {L : Type 0} → (L → Told) → ℕ → Script → Kind L → Kind L → Option (List ℕ) → Option (List ℕ) → Type 0
 Unprinted told count (right lines) old new out_old out_new = FailsPrinting told count lines old new out_old out_new
-Unprinted told count (bad_line number) old new out_old out_new = (new ≡ old) × AppendsFront out_old out_new (bad_line_said number)
+Unprinted told count (bad_line number) old new out_old out_new =
+    (new ≡ old) × AppendsFront out_old out_new (bad_line_said number)
 
 abbrev pub Ends : {L : Type 0} → End → (L → Told) → ℕ → Script → Kind L → Kind L → Option (List ℕ) → Option (List ℕ) → Type 0
-Ends Done told count script old new out_old out_new = IfRight script (λ lines. RunsOnLinks told count lines old new out_old out_new)
+Ends Done told count script old new out_old out_new =
+    IfRight script (λ lines. RunsOnLinks told count lines old new out_old out_new)
 Ends NoMemory told count script old new out_old out_new = (new ≡ old) × (out_new ≡ out_old)
 Ends NoScript told count script old new out_old out_new = ⊥
 Ends BadScript told count script old new out_old out_new =
@@ -203,7 +221,7 @@ EndCausedBy LinkFault old new out_old out_new = KindFailed old new × (out_new �
 EndCausedBy BadReply old new out_old out_new = KindKept old new × (out_new ≡ out_old)
 EndCausedBy OutputFault old new out_old out_new = Rose out_old out_new
 
--- ---- statuses
+-- ## Statuses
 
 abbrev pub status_of : End → ℕ
 status_of Done = 0
@@ -220,22 +238,19 @@ IsStatus n = (n ≡ 0) ⊎ ((n ≡ 2) ⊎ ((n ≡ 3) ⊎ ((n ≡ 4) ⊎ ((n ≡ 
 abbrev pub Unfailed : {T : Type 0} → Kind T → Kind T → Type 0
 Unfailed old new = KindFailed old new → ⊥
 
--- The script that the words name was read, and has P for the number of links.
-pub record ForScript {F : Type 0} (left : F → Option (List ℕ)) (faults : F → ℕ) (words : List (List ℕ)) (old new : Kind F) (P : ℕ → Script → Type 0) : Type 0 where
-  pub text : List ℕ
-  pub loads : Loads left faults (max_script + 1) old new text
-  pub holds : P (links_in words) (script_of (links_in words) text)
-
 -- how a run with right words ends: without a script that could be read, or over the one that was
-abbrev pub WordsEnd : {F L : Type 0} → End → (F → Option (List ℕ)) → (F → ℕ) → (L → Told) → List (List ℕ) → Kind F → Kind F → Kind L → Kind L → Option (List ℕ) → Option (List ℕ) → Type 0
+abbrev pub WordsEnd : {F L : Type 0} → End → (F → Option (List ℕ)) → (F → ℕ) → (L → Told) → List (List ℕ)
+    → Kind F → Kind F → Kind L → Kind L → Option (List ℕ) → Option (List ℕ) → Type 0
 WordsEnd NoScript left faults told words file_old file_new old new out_old out_new = (new ≡ old) × (out_new ≡ out_old)
 WordsEnd end left faults told words file_old file_new old new out_old out_new =
     ForScript left faults words file_old file_new (λ count script. Ends end told count script old new out_old out_new)
 
 -- the counts that rose at that
 abbrev pub WordsCausedBy : {F L : Type 0} → End → Kind F → Kind F → Kind L → Kind L → ℕ → ℕ → Type 0
-WordsCausedBy NoScript file_old file_new old new out_old out_new = KindFailed file_old file_new × KindKept old new × (out_new ≡ out_old)
-WordsCausedBy end file_old file_new old new out_old out_new = KindKept file_old file_new × EndCausedBy end old new out_old out_new
+WordsCausedBy NoScript file_old file_new old new out_old out_new =
+    KindFailed file_old file_new × KindKept old new × (out_new ≡ out_old)
+WordsCausedBy end file_old file_new old new out_old out_new =
+    KindKept file_old file_new × EndCausedBy end old new out_old out_new
 
 -- the next file to be opened tells these bytes
 pub record TellsScript {F : Type 0} (left : F → Option (List ℕ)) (kind : Kind F) (bytes : List ℕ) : Type 0 where
@@ -251,4 +266,4 @@ pub record TellAnswers {L : Type 0} (told : L → Told) (kind : Kind L) (count :
   pub each : AreAnswers lines answers
   pub all : length answers ≡ length lines
   pub are : kind.unopened ≡ Some links
-  pub give : (k : ℕ) (d : L) → k < count → (more : List ℕ) × ((told (slice_index_or links k d)).left ≡ Some (got lines answers k ++ more))
+  pub give : (k : ℕ) (d : L) → k < count → (more : List ℕ) × ((told_at told links k d).left ≡ Some (got lines answers k ++ more))

@@ -52,7 +52,7 @@ at_end act (word ∷ words) = None
 abbrev pub only : {A : Type 0} → List (List ℕ) → List (List ℕ) → A → Option A
 only keys words x = if has_only keys words then Some x else None
 
--- ---- the words of each command, behind its own
+-- ## The words of each command, behind its own
 
 abbrev pub label_at : List (List ℕ) → Option (List ℕ)
 label_at words = or_default [] (bytes_in 0 64) (value_at (codes "label=") words)

@@ -13,7 +13,7 @@ use Rattle.dpe_client.specs.Acts.{Act, profile, initialize, derive, sign, seal, 
 use Rattle.dpe_client.specs.Names.{fresh_of, keep_of, sealed_of}
 use Rattle.dpe_client.specs.Script.{Line}
 
--- ---- values of names
+-- ## Values of names
 
 pub record Values : Type 0 where
   pub handles : List ℕ → List ℕ
@@ -29,7 +29,7 @@ taken None value values name = values name
 taken (Some taker) None values name = values name
 taken (Some taker) (Some value) values name = if bytes_eq name taker then value else values name
 
--- ---- answers
+-- ## Answers
 
 -- What came back for a line: to `raw` any payload, to every other command a response.
 pub data Answer : Type 0 where
@@ -91,7 +91,7 @@ after v act (response r) = record {
   boxes = taken (sealed_of act) (made_bytes r) v.boxes;
 }
 
--- ---- what is sent
+-- ## What is sent
 
 abbrev pub derive_request : Values → DeriveLine → request.DeriveRequest
 derive_request v d = record {
@@ -157,7 +157,7 @@ got (line ∷ lines) [] link = []
 got (line ∷ lines) (answer ∷ answers) link =
     (if line.link == link then frame (answer_payload answer) else []) ++ got lines answers link
 
--- ---- what is printed
+-- ## What is printed
 
 -- a byte string behind a space, which stays where there are no bytes
 abbrev pub shown : Option (List ℕ) → List ℕ

@@ -37,26 +37,29 @@ pub data IsNoReply (act : Act) (left : Option (List ℕ)) (taken : List ℕ) : T
   too_long : length taken ≡ 4 → 4096 < told_length taken → IsNoReply act left taken
   refused : (payload : List ℕ) → length payload ≤ 4096 → taken ≡ frame payload → IsNoAnswer act payload → IsNoReply act left taken
 
--- ---- one line
+-- ## One line
 
--- the command was sent and its answer taken, and P of what was printed
-pub record Exchanges (line : Line) (P : Option (List ℕ) → Option (List ℕ) → List ℕ → Type 0) (before now : Values) (old new : Told) (out_old out_new : Option (List ℕ)) : Type 0 where
-  pub answer : Answer
-  pub is : IsAnswerTo (asked_of line.act) answer
-  pub values : now ≡ after before line.act answer
-  pub sent : Appends old.bytes new.bytes (frame (sent_payload before line.act))
-  pub taken : Consumes old.left new.left (frame (answer_payload answer))
-  pub printed : P out_old out_new (said_of line answer)
+module _ (line : Line) (P : Option (List ℕ) → Option (List ℕ) → List ℕ → Type 0) (before now : Values) where
+  -- the command was sent and its answer taken, and P of what was printed
+  pub record Exchanges (old new : Told) (out_old out_new : Option (List ℕ)) : Type 0 where
+    pub answer : Answer
+    pub is : IsAnswerTo (asked_of line.act) answer
+    pub values : now ≡ after before line.act answer
+    pub sent : Appends old.bytes new.bytes (frame (sent_payload before line.act))
+    pub taken : Consumes old.left new.left (frame (answer_payload answer))
+    pub printed : P out_old out_new (said_of line answer)
 
 -- a front of the command was sent, and less than a frame was taken
 abbrev pub IsCutOff : Act → Values → Told → Told → Type 0
 IsCutOff act before old new =
-    AppendsFront old.bytes new.bytes (frame (sent_payload before act)) × ((part : List ℕ) × IsNoFrame part × Consumes old.left new.left part)
+    AppendsFront old.bytes new.bytes (frame (sent_payload before act))
+    × ((part : List ℕ) × IsNoFrame part × Consumes old.left new.left part)
 
 -- the command was sent, and what was taken is no reply
 abbrev pub IsUnanswered : Act → Values → Told → Told → Type 0
 IsUnanswered act before old new =
-    Appends old.bytes new.bytes (frame (sent_payload before act)) × ((taken : List ℕ) × IsNoReply act new.left taken × Consumes old.left new.left taken)
+    Appends old.bytes new.bytes (frame (sent_payload before act))
+    × ((taken : List ℕ) × IsNoReply act new.left taken × Consumes old.left new.left taken)
 
 -- how a line ends that isn't answered and printed
 abbrev pub Fails : Cause → Line → Values → Values → Told → Told → Option (List ℕ) → Option (List ℕ) → Type 0
@@ -74,7 +77,7 @@ abbrev pub HasLineCause : {T : Type 0} → Result T Cause → Told → Told → 
 HasLineCause result old new out_old out_new =
     MatchResult result (λ _. SameCounts old new × (out_new ≡ out_old)) (λ cause. CausedBy cause old new out_old out_new)
 
--- ---- the parts of a line
+-- ## The parts of a line
 
 -- what was taken is no frame: a link ended or told too much, or failed
 abbrev pub HasNoFrame : Act → Cause → Told → Told → Type 0
@@ -85,29 +88,36 @@ HasNoFrame act Output old new = ⊥
 -- how an exchange ends without a payload
 abbrev pub NotExchanged : Act → List ℕ → Cause → Told → Told → Type 0
 NotExchanged act payload Link old new =
-    AppendsFront old.bytes new.bytes (frame payload) × ((part : List ℕ) × IsNoFrame part × Consumes old.left new.left part)
+    AppendsFront old.bytes new.bytes (frame payload)
+    × ((part : List ℕ) × IsNoFrame part × Consumes old.left new.left part)
 NotExchanged act payload Reply old new =
-    Appends old.bytes new.bytes (frame payload) × ((taken : List ℕ) × IsNoReply act new.left taken × Consumes old.left new.left taken)
+    Appends old.bytes new.bytes (frame payload)
+    × ((taken : List ℕ) × IsNoReply act new.left taken × Consumes old.left new.left taken)
 NotExchanged act payload Output old new = ⊥
 
--- the payload was taken as an answer, and P of what was printed
-pub record Concludes (line : Line) (payload : List ℕ) (P : Option (List ℕ) → Option (List ℕ) → List ℕ → Type 0) (before now : Values) (out_old out_new : Option (List ℕ)) : Type 0 where
-  pub answer : Answer
-  pub is : Answers line.act payload answer
-  pub values : now ≡ after before line.act answer
-  pub printed : P out_old out_new (said_of line answer)
+module _ (line : Line) (payload : List ℕ) (P : Option (List ℕ) → Option (List ℕ) → List ℕ → Type 0) where
+  -- the payload was taken as an answer, and P of what was printed
+  pub record Concludes (before now : Values) (out_old out_new : Option (List ℕ)) : Type 0 where
+    pub answer : Answer
+    pub is : Answers line.act payload answer
+    pub values : now ≡ after before line.act answer
+    pub printed : P out_old out_new (said_of line answer)
 
 abbrev pub NotConcluded : Cause → Line → List ℕ → Values → Values → Option (List ℕ) → Option (List ℕ) → Type 0
 NotConcluded Link line payload before now out_old out_new = ⊥
 NotConcluded Reply line payload before now out_old out_new = IsNoAnswer line.act payload × (out_new ≡ out_old)
-NotConcluded Output line payload before now out_old out_new = Concludes line payload AppendsFront before now out_old out_new
+NotConcluded Output line payload before now out_old out_new =
+    Concludes line payload AppendsFront before now out_old out_new
 
 abbrev pub OutputCause : Cause → ℕ → ℕ → Type 0
 OutputCause Link old new = ⊥
 OutputCause Reply old new = new ≡ old
 OutputCause Output old new = Rose old new
 
--- ---- all lines
+abbrev pub HasOutputCause : {T : Type 0} → Result T Cause → ℕ → ℕ → Type 0
+HasOutputCause result old new = MatchResult result (λ _. new ≡ old) (λ cause. OutputCause cause old new)
+
+-- ## All lines
 
 -- each answer is one to its line, and there are no more answers than lines
 abbrev pub AreAnswers : List Line → List Answer → Type 0
@@ -121,13 +131,18 @@ next_line [] answers = None
 next_line (line ∷ lines) [] = Some line
 next_line (line ∷ lines) (answer ∷ answers) = next_line lines answers
 
+-- what the link of this number tells
+abbrev pub told_at : {L : Type 0} → (L → Told) → List L → ℕ → L → Told
+told_at told links k d = told (slice_index_or links k d)
+
 -- P of each link, by its number
 abbrev pub EachLink : {L : Type 0} → (L → Told) → (ℕ → Told → Told → Type 0) → List L → List L → Type 0
-EachLink {L} told P old new = (k : ℕ) (d : L) → k < length old → P k (told (slice_index_or old k d)) (told (slice_index_or new k d))
+EachLink {L} told P old new = (k : ℕ) (d : L) → k < length old → P k (told_at told old k d) (told_at told new k d)
 
 -- all was sent, and just the answers were taken
 abbrev pub IsWhole : List Line → List Answer → ℕ → Told → Told → Type 0
-IsWhole lines answers link old new = Appends old.bytes new.bytes (sent lines answers link) × Consumes old.left new.left (got lines answers link)
+IsWhole lines answers link old new =
+    Appends old.bytes new.bytes (sent lines answers link) × Consumes old.left new.left (got lines answers link)
 
 -- a front was sent, and behind the answers less than a frame was taken
 abbrev pub IsFront : List Line → List Answer → ℕ → Told → Told → Type 0
@@ -191,7 +206,8 @@ LinksKept told old new = EachLink told (λ k before now. SameCounts before now) 
 
 -- some link failed
 abbrev pub SomeLinkFailed : {L : Type 0} → (L → Told) → List L → List L → Type 0
-SomeLinkFailed {L} told old new = (k : ℕ) × (d : L) × (k < length old) × LinkFailed (told (slice_index_or old k d)) (told (slice_index_or new k d))
+SomeLinkFailed {L} told old new =
+    (k : ℕ) × (d : L) × (k < length old) × LinkFailed (told_at told old k d) (told_at told new k d)
 
 -- the counts that rose: of a link, or of the output
 abbrev pub RunCausedBy : {L : Type 0} → (L → Told) → Cause → List L → List L → ℕ → ℕ → Type 0
@@ -201,4 +217,5 @@ RunCausedBy told Output old new out_old out_new = LinksKept told old new × Rose
 
 abbrev pub HasRunCause : {L T : Type 0} → (L → Told) → Result T LineFault → List L → List L → ℕ → ℕ → Type 0
 HasRunCause told result old new out_old out_new =
-    MatchResult result (λ _. LinksKept told old new × (out_new ≡ out_old)) (λ fault. RunCausedBy told fault.cause old new out_old out_new)
+    MatchResult result (λ _. LinksKept told old new × (out_new ≡ out_old))
+    (λ fault. RunCausedBy told fault.cause old new out_old out_new)

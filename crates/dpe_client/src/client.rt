@@ -4,7 +4,7 @@ ghost use Rattle.std.specs.List.{list_all};
 ghost use Rattle.std.specs.Vec.{vec_capacity};
 ghost use Rattle.std.specs.Io.KnownBytes.{Appends};
 ghost use Rattle.dpe_io.specs.Causes.{Rose};
-ghost use Rattle.dpe_client.specs.Client.{is_path, are_right as are_words_right, links_in, bad_line_said, fault_said, Loads, KindKept, KindFailed, HasKindCause, Ends, EndCausedBy, WordsEnd, WordsCausedBy, IsStatus, status_of, ForScript, IfRight, IfBad, RunsOnLinks, FailsAtLink, FailsAtReply, Unprinted, Unfailed, TellsScript, TellAnswers};
+ghost use Rattle.dpe_client.specs.Client.{is_path, are_right as are_words_right, links_in, bad_line_said, fault_said, Loads, KindKept, KindFailed, HasKindCause, Ends, EndCausedBy, WordsEnd, WordsCausedBy, IsStatus, status_of, ForScript, ForLines, IfBad, RunsOnLinks, FailsAtLink, FailsAtReply, Unprinted, Unfailed, TellsScript, TellAnswers};
 ghost use Rattle.dpe_client.specs.CodeNames.{names_of};
 ghost use Rattle.dpe_client.specs.CodeScript.{AreBelow, AreKnown, IsLineInRange, IsLineKnown, lines_are};
 ghost use Rattle.dpe_client.specs.CodeValues.{IsReady, values_of};
@@ -251,10 +251,9 @@ pub fn client_main<D: Dock, O: Sink>(alloc: Global, words: &[&str], dock: &mut D
     ensures statuses { IsStatus result }
 
     // 0: each command line was sent and answered, and all was printed.
-    ensures done { result ≡ 0 → ForScript D.File.left D.File.faults (texts words.now) (D.scripts dock.old) (D.scripts dock.new)
-        (λ count script. IfRight script (λ lines.
-        RunsOnLinks (told_by D.Link.Source.left D.Link.Sink.bytes D.Link.Source.faults D.Link.Sink.faults) count lines
-        (D.links dock.old) (D.links dock.new) (O.bytes out.old) (O.bytes out.new))) }
+    ensures done { result ≡ 0 → ForLines D.File.left D.File.faults (texts words.now) (D.scripts dock.old) (D.scripts dock.new)
+        (λ count lines. RunsOnLinks (told_by D.Link.Source.left D.Link.Sink.bytes D.Link.Source.faults D.Link.Sink.faults)
+        count lines (D.links dock.old) (D.links dock.new) (O.bytes out.old) (O.bytes out.new)) }
 
     // 2: exactly where the words aren't of the form. Nothing is opened or printed.
     ensures words { (result ≡ 2) ↔ (are_words_right (texts words.now) ≡ false) }
@@ -270,14 +269,12 @@ pub fn client_main<D: Dock, O: Sink>(alloc: Global, words: &[&str], dock: &mut D
     ensures bad_unopened { result ≡ 13 → D.links dock.new ≡ D.links dock.old }
 
     // 14: a link couldn't be opened, or failed; and 15: what came for a line is no reply. The text on that is printed.
-    ensures link { result ≡ 14 → ForScript D.File.left D.File.faults (texts words.now) (D.scripts dock.old) (D.scripts dock.new)
-        (λ count script. IfRight script (λ lines.
-        FailsAtLink Appends (told_by D.Link.Source.left D.Link.Sink.bytes D.Link.Source.faults D.Link.Sink.faults) count lines
-        (D.links dock.old) (D.links dock.new) (O.bytes out.old) (O.bytes out.new))) }
-    ensures reply { result ≡ 15 → ForScript D.File.left D.File.faults (texts words.now) (D.scripts dock.old) (D.scripts dock.new)
-        (λ count script. IfRight script (λ lines.
-        FailsAtReply Appends (told_by D.Link.Source.left D.Link.Sink.bytes D.Link.Source.faults D.Link.Sink.faults) count lines
-        (D.links dock.old) (D.links dock.new) (O.bytes out.old) (O.bytes out.new))) }
+    ensures link { result ≡ 14 → ForLines D.File.left D.File.faults (texts words.now) (D.scripts dock.old) (D.scripts dock.new)
+        (λ count lines. FailsAtLink Appends (told_by D.Link.Source.left D.Link.Sink.bytes D.Link.Source.faults D.Link.Sink.faults)
+        count lines (D.links dock.old) (D.links dock.new) (O.bytes out.old) (O.bytes out.new)) }
+    ensures reply { result ≡ 15 → ForLines D.File.left D.File.faults (texts words.now) (D.scripts dock.old) (D.scripts dock.new)
+        (λ count lines. FailsAtReply Appends (told_by D.Link.Source.left D.Link.Sink.bytes D.Link.Source.faults D.Link.Sink.faults)
+        count lines (D.links dock.old) (D.links dock.new) (O.bytes out.old) (O.bytes out.new)) }
 
     // 7: the output failed, within the text of the answers or within that on a fault.
     ensures unprinted { result ≡ 7 → ForScript D.File.left D.File.faults (texts words.now) (D.scripts dock.old) (D.scripts dock.new)

@@ -1,5 +1,5 @@
 //! Sends the commands of a script, and prints what comes back.
-ghost use Rattle.std.specs.Prelude.{◌≡◌, ◌≢◌, ◌+◌, ◌<◌, ◌≤◌, ℕ, All, length, take, slice_index_or, IfOk, IfErr, OnOk, OnErr, MatchResult};
+ghost use Rattle.std.specs.Prelude.{◌≡◌, ◌≢◌, ◌+◌, ◌<◌, ◌≤◌, ℕ, All, length, take, slice_index_or, IfOk, IfErr, OnOk, OnErr};
 ghost use Rattle.std.specs.Io.KnownBytes.{Appends, Consumes};
 ghost use Rattle.dpe_io.specs.Causes.{HasCause};
 ghost use Rattle.dpe_link.specs.Frames.{frame};
@@ -8,7 +8,7 @@ ghost use Rattle.dpe_client.specs.Meaning.{no_values};
 ghost use Rattle.dpe_client.specs.CodeNames.{names_of};
 ghost use Rattle.dpe_client.specs.CodeScript.{line_of, lines_are, IsLineKnown, IsLineInRange};
 ghost use Rattle.dpe_client.specs.CodeValues.{values_of, IsReady};
-ghost use Rattle.dpe_client.specs.Run.{AppendsFront, told_by, SameCounts, HasNoFrame, NotExchanged, Concludes, NotConcluded, OutputCause, Exchanges, Fails, HasLineCause, RunsWhole, Stops, HasRunCause};
+ghost use Rattle.dpe_client.specs.Run.{AppendsFront, told_at, told_by, SameCounts, HasNoFrame, NotExchanged, Concludes, NotConcluded, HasOutputCause, Exchanges, Fails, HasLineCause, RunsWhole, Stops, HasRunCause};
 
 use crate::answer::take_answer;
 use crate::command::write_act;
@@ -105,7 +105,7 @@ fn conclude<O: Sink>(
         (values_of values.old) (values_of values.new) (O.bytes out.old) (O.bytes out.new)) }
     ensures fault { IfErr result (λ cause. NotConcluded cause (line_of line.now) payload.now
         (values_of values.old) (values_of values.new) (O.bytes out.old) (O.bytes out.new)) }
-    ensures cause { MatchResult result (λ _. O.faults out.new ≡ O.faults out.old) (λ cause. OutputCause cause (O.faults out.old) (O.faults out.new)) }
+    ensures cause { HasOutputCause result (O.faults out.old) (O.faults out.new) }
     ensures ready { IsReady values.new }
     ensures names { values.new.names ≡ values.old.names }
 {
@@ -160,14 +160,17 @@ fn ask_on<L: Duplex, O: Sink>(
     requires known { IsLineKnown (names_of values.old.names) line.now }
     requires range { IsLineInRange line.now }
     ensures ok { OnOk result ((d : L) → Exchanges (line_of line.now) Appends (values_of values.old) (values_of values.new)
-        (told_by L.Source.left L.Sink.bytes L.Source.faults L.Sink.faults (slice_index_or links.old line.now.link d))
-        (told_by L.Source.left L.Sink.bytes L.Source.faults L.Sink.faults (slice_index_or links.new line.now.link d)) (O.bytes out.old) (O.bytes out.new)) }
+        (told_at (told_by L.Source.left L.Sink.bytes L.Source.faults L.Sink.faults) links.old line.now.link d)
+        (told_at (told_by L.Source.left L.Sink.bytes L.Source.faults L.Sink.faults) links.new line.now.link d)
+        (O.bytes out.old) (O.bytes out.new)) }
     ensures fault { IfErr result (λ cause. (d : L) → Fails cause (line_of line.now) (values_of values.old) (values_of values.new)
-        (told_by L.Source.left L.Sink.bytes L.Source.faults L.Sink.faults (slice_index_or links.old line.now.link d))
-        (told_by L.Source.left L.Sink.bytes L.Source.faults L.Sink.faults (slice_index_or links.new line.now.link d)) (O.bytes out.old) (O.bytes out.new)) }
+        (told_at (told_by L.Source.left L.Sink.bytes L.Source.faults L.Sink.faults) links.old line.now.link d)
+        (told_at (told_by L.Source.left L.Sink.bytes L.Source.faults L.Sink.faults) links.new line.now.link d)
+        (O.bytes out.old) (O.bytes out.new)) }
     ensures cause { (d : L) → HasLineCause result
-        (told_by L.Source.left L.Sink.bytes L.Source.faults L.Sink.faults (slice_index_or links.old line.now.link d))
-        (told_by L.Source.left L.Sink.bytes L.Source.faults L.Sink.faults (slice_index_or links.new line.now.link d)) (O.faults out.old) (O.faults out.new) }
+        (told_at (told_by L.Source.left L.Sink.bytes L.Source.faults L.Sink.faults) links.old line.now.link d)
+        (told_at (told_by L.Source.left L.Sink.bytes L.Source.faults L.Sink.faults) links.new line.now.link d)
+        (O.faults out.old) (O.faults out.new) }
     ensures others { (k : ℕ) (d : L) → (line.now.link ≡ k → ⊥) → slice_index_or links.new k d ≡ slice_index_or links.old k d }
     ensures ready { IsReady values.new }
     ensures names { values.new.names ≡ values.old.names }
