@@ -126,12 +126,9 @@ pub record IsDeriveInRange (d : DeriveLine) : Type 0 where
   pub locality : IfSome d.locality (λ l. l ≤ 7)
 
 abbrev pub IsInRange : Act → Type 0
-IsInRange profile = Unit {0}
-IsInRange (initialize fresh) = Unit {0}
 IsInRange (derive d) = IsDeriveInRange d
 IsInRange (sign s) = (length s.label ≤ 64) × (length s.message ≤ 2048)
 IsInRange (seal s) = (length s.label ≤ 64) × (s.modes ≤ 15) × (length s.plain ≤ 2048)
 IsInRange (unseal u) = length u.label ≤ 64
-IsInRange (rotate old fresh) = Unit {0}
-IsInRange (destroy old recursive) = Unit {0}
 IsInRange (raw b) = length b ≤ 4000
+IsInRange act = Unit {0}

@@ -213,13 +213,9 @@ Ends OutputFault told count script old new out_old out_new = Unprinted told coun
 
 -- the counts that rose: of the links, or of the output
 abbrev pub EndCausedBy : {L : Type 0} → End → Kind L → Kind L → ℕ → ℕ → Type 0
-EndCausedBy Done old new out_old out_new = KindKept old new × (out_new ≡ out_old)
-EndCausedBy NoMemory old new out_old out_new = KindKept old new × (out_new ≡ out_old)
-EndCausedBy NoScript old new out_old out_new = KindKept old new × (out_new ≡ out_old)
-EndCausedBy BadScript old new out_old out_new = KindKept old new × (out_new ≡ out_old)
 EndCausedBy LinkFault old new out_old out_new = KindFailed old new × (out_new ≡ out_old)
-EndCausedBy BadReply old new out_old out_new = KindKept old new × (out_new ≡ out_old)
 EndCausedBy OutputFault old new out_old out_new = Rose out_old out_new
+EndCausedBy end old new out_old out_new = KindKept old new × (out_new ≡ out_old)
 
 -- ## Statuses
 

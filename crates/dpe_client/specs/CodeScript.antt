@@ -28,14 +28,12 @@ HasForm links line (Asks a) = (names : Names) → step links names line ≡ aske
 HasForm links line Bad = (names : Names) → step links names line ≡ stop
 
 abbrev pub IsFormInRange : Form → Type 0
-IsFormInRange Skipped = Unit {0}
 IsFormInRange (Asks a) = IsInRange (act_of a.act)
-IsFormInRange Bad = Unit {0}
+IsFormInRange form = Unit {0}
 
 abbrev pub IsFormBelow : ℕ → Form → Type 0
-IsFormBelow links Skipped = Unit {0}
 IsFormBelow links (Asks a) = a.link < links
-IsFormBelow links Bad = Unit {0}
+IsFormBelow links form = Unit {0}
 
 -- each line has one of so many links
 abbrev pub AreBelow : ℕ → code_script.Script → Type 0

@@ -5,8 +5,7 @@ use Rattle.hex.specs.Hex.{encode_lower}
 use Rattle.dpe_link.specs.Frames.{frame}
 use Rattle.dpe_messages.specs.Request as request
 use Rattle.dpe_messages.specs.CommandRows.{command_payload}
-use Rattle.dpe_messages.specs.Replies.{Response, refused, handle, derived, made, done, code_of, reply_payload, IsRefusal, IsAnswer}
-use Rattle.dpe_messages.specs.Replies as replies
+use Rattle.dpe_messages.specs.Replies.{Response, handle, derived, made, code_of, reply_payload, IsRefusal, IsAnswer}
 use Rattle.dpe_messages.specs.declared.reply_reader.Asked.{Asked}
 use Rattle.dpe_messages.specs.declared.reply_reader.Asked.TheVariants as asked
 use Rattle.dpe_client.specs.Acts.{Act, profile, initialize, derive, sign, seal, unseal, rotate, destroy, raw, DeriveLine}
@@ -60,28 +59,18 @@ IsAnswerTo (Some command) (response r) = IsRefusal r ⊎ IsAnswer command r
 
 -- the handles and the byte string that a response carries
 abbrev pub new_handle : Response → Option (List ℕ)
-new_handle (refused code) = None
-new_handle replies.profile = None
 new_handle (handle h) = Some h
 new_handle (derived child parent) = Some child
-new_handle (made h b) = None
-new_handle done = None
+new_handle r = None
 
 abbrev pub kept_handle : Response → Option (List ℕ)
-kept_handle (refused code) = None
-kept_handle replies.profile = None
-kept_handle (handle h) = None
 kept_handle (derived child parent) = parent
 kept_handle (made h b) = h
-kept_handle done = None
+kept_handle r = None
 
 abbrev pub made_bytes : Response → Option (List ℕ)
-made_bytes (refused code) = None
-made_bytes replies.profile = None
-made_bytes (handle h) = None
-made_bytes (derived child parent) = None
 made_bytes (made h b) = Some b
-made_bytes done = None
+made_bytes r = None
 
 -- the values after a command and its answer: the parent's new handle comes last, so it stays where both names are one
 abbrev pub after : Values → Act → Answer → Values

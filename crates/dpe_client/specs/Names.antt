@@ -1,67 +1,42 @@
 -- The names of a script: those that a command uses, and those that it introduces.
 use Rattle.std.specs.Prelude.{◌≡◌, ℕ, ◌+◌, Bool, true, ◌&&◌, List, [], ◌∷◌, ◌++◌, length, Option, Some, None, if◌then◌else◌, bytes_eq}
 use Rattle.std.specs.List.{list_any}
-use Rattle.dpe_client.specs.Acts.{Act, profile, initialize, derive, sign, seal, unseal, rotate, destroy, raw}
+use Rattle.dpe_client.specs.Acts.{Act, initialize, derive, sign, seal, unseal, rotate, destroy}
 
 -- the handle's name that a command uses
 abbrev pub old_of : Act → Option (List ℕ)
-old_of profile = None
-old_of (initialize fresh) = None
 old_of (derive d) = Some d.old
 old_of (sign s) = Some s.old
 old_of (seal s) = Some s.old
 old_of (unseal u) = Some u.old
 old_of (rotate old fresh) = Some old
 old_of (destroy old recursive) = Some old
-old_of (raw b) = None
+old_of act = None
 
 -- the name of the box that `unseal` uses
 abbrev pub opened_of : Act → Option (List ℕ)
-opened_of profile = None
-opened_of (initialize fresh) = None
-opened_of (derive d) = None
-opened_of (sign s) = None
-opened_of (seal s) = None
 opened_of (unseal u) = Some u.sealed
-opened_of (rotate old fresh) = None
-opened_of (destroy old recursive) = None
-opened_of (raw b) = None
+opened_of act = None
 
 -- the name that the new handle of a command gets: that of the root, of the child, or of the same context
 abbrev pub fresh_of : Act → Option (List ℕ)
-fresh_of profile = None
 fresh_of (initialize fresh) = Some fresh
 fresh_of (derive d) = Some d.fresh
-fresh_of (sign s) = None
-fresh_of (seal s) = None
-fresh_of (unseal u) = None
 fresh_of (rotate old fresh) = Some fresh
-fresh_of (destroy old recursive) = None
-fresh_of (raw b) = None
+fresh_of act = None
 
 -- the name that the new handle of a retained context gets
 abbrev pub keep_of : Act → Option (List ℕ)
-keep_of profile = None
-keep_of (initialize fresh) = None
 keep_of (derive d) = d.keep
 keep_of (sign s) = s.keep
 keep_of (seal s) = s.keep
 keep_of (unseal u) = u.keep
-keep_of (rotate old fresh) = None
-keep_of (destroy old recursive) = None
-keep_of (raw b) = None
+keep_of act = None
 
 -- the name that the box of `seal` gets
 abbrev pub sealed_of : Act → Option (List ℕ)
-sealed_of profile = None
-sealed_of (initialize fresh) = None
-sealed_of (derive d) = None
-sealed_of (sign s) = None
 sealed_of (seal s) = Some s.sealed
-sealed_of (unseal u) = None
-sealed_of (rotate old fresh) = None
-sealed_of (destroy old recursive) = None
-sealed_of (raw b) = None
+sealed_of act = None
 
 -- the names introduced so far: handles and boxes are two sets
 pub record Names : Type 0 where
