@@ -9,8 +9,8 @@ ghost use Rattle.dpe_client.specs.CodeNames.{names_of};
 use crate::act::Act;
 use std::alloc::{AllocError, Global};
 
-/// The handle's name that a command uses.
-pub fn old_of<'a>(act: &Act<'a>) -> Option<&'a [u8]>
+// The handle's name that a command uses.
+fn old_of<'a>(act: &Act<'a>) -> Option<&'a [u8]>
     ensures { option_map (λ t. t.now) result ≡ old_name (act_of act.now) }
 {
     match act {
@@ -26,8 +26,8 @@ pub fn old_of<'a>(act: &Act<'a>) -> Option<&'a [u8]>
     }
 }
 
-/// The name of the box that `unseal` uses.
-pub fn opened_of<'a>(act: &Act<'a>) -> Option<&'a [u8]>
+// The name of the box that `unseal` uses.
+fn opened_of<'a>(act: &Act<'a>) -> Option<&'a [u8]>
     ensures { option_map (λ t. t.now) result ≡ opened_name (act_of act.now) }
 {
     match act {

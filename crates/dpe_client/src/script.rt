@@ -45,9 +45,9 @@ pub enum ScriptFault {
     BadLine(usize),
 }
 
-/// What a line is, apart from the names that it uses and introduces.
+// What a line is, apart from the names that it uses and introduces.
 #[derive(Clone, Copy)]
-pub enum Form<'a> {
+enum Form<'a> {
     Skipped,
     Asks(Asking<'a>),
     Bad,
