@@ -1,4 +1,4 @@
--- Where each link tells answers to its lines, no line ends without a reply.
+-- Where each link tells answers to its lines, no line ends without a reply; and where no line does, they told answers.
 use Rattle.std.proofs.Common.{◌≡◌, ℕ, suc, ◌<◌, ◌≤◌, List, [], ◌∷◌, ◌++◌, length, get_or, Option, Some, None, inl, inr, refl, sym, ap, subst, ◌∙◌, append_assoc, append-nil, arith}
 use Rattle.std.specs.Prelude.{◌==◌, if◌then◌else◌, All}
 use Rattle.std.specs.Io.KnownBytes.{Consumes, IsAtEnd}
@@ -15,8 +15,8 @@ use Rattle.dpe_client.specs.Script.{Line}
 use Rattle.dpe_client.specs.Meaning.{Answer, payload, response, IsAnswerTo, asked_of, answer_payload, got}
 use Rattle.dpe_client.specs.CodeScript.{line_of, lines_are}
 use Rattle.dpe_client.specs.declared.script.Line as code_line
-use Rattle.dpe_client.specs.Run.{Told, AreAnswers, next_line, IsNoReply, ended, too_long, refused, StopsAtReply}
-use Rattle.dpe_client.specs.Client.{AllOpen, TellAnswers, EndsAtReply, LinesStop}
+use Rattle.dpe_client.specs.Run.{Told, AreAnswers, next_line, IsNoReply, ended, too_long, refused, RunsWhole, StopsAtReply}
+use Rattle.dpe_client.specs.Client.{AllOpen, TellBytes, TellAnswers, RunsOnLinks, EndsAtReply, LinesStop}
 use Rattle.dpe_client.specs.declared.run.Cause.{Cause}
 use Rattle.dpe_client.specs.declared.run.Cause.TheVariants.{Reply}
 use Rattle.dpe_client.proofs.Running.{got_one, got_own, some_of}
@@ -175,3 +175,21 @@ pub no_bad_reply : {L : Type 0} (told : L → Told) (count : ℕ) (lines : List 
     → All (λ l. l.link < count) lines → LinesStop told count (lines_are lines) old new x0 x1 cause number → TellAnswers told old count (lines_are lines) → ⊥
 no_bad_reply told count lines old new x0 x1 number cause is near stops t =
     replies_stand told count lines old new x0 x1 number near t (subst (λ (c : Cause). LinesStop told count (lines_are lines) old new x0 x1 c number) is stops)
+
+-- links that tell what they will give told answers, where all lines were answered
+pub answers_told : {L : Type 0} (told : L → Told) (count : ℕ) (lines : List Line) (old new : Kind L) (x0 x1 : Option (List ℕ)) → TellBytes told old count
+    → RunsOnLinks told count lines old new x0 x1 → TellAnswers told old count lines
+answers_told {L} told count lines old new x0 x1 t o = record { answers = w.answers; links = t.links; each = w.each; all = w.all; are = t.are; give = gives }
+  where
+    w : RunsWhole told lines o.opened o.closed x0 x1
+    w = o.holds
+
+    gives : (k : ℕ) (d : L) → k < count → (more : List ℕ) × ((told (get_or t.links k d)).left ≡ Some (got lines w.answers k ++ more))
+    gives k d below =
+        let within : k < length o.opened = omega (arith, o.all) in
+        let front = opened_front old o.mid o.opened t.links o.opens t.are in
+        let same : get_or t.links k d ≡ get_or o.opened k d = ap (λ (l : List L). get_or l k d) front.1 ∙ get_or_append_left o.opened front.0 d k within in
+        let given = t.give k d below in
+        let read = consumed_told (told (get_or o.opened k d)).left (told (get_or o.closed k d)).left given.0 (got lines w.answers k)
+        (ap (λ (l : L). (told l).left) (sym same) ∙ given.1) (w.links k d within).1 in
+        (read.0, given.1 ∙ ap (λ (b : List ℕ). Some b) read.2)

@@ -6,10 +6,11 @@ use Rattle.dpe_io.specs.Causes.{Rose}
 use Rattle.dpe_io.specs.Told.{Kind}
 use Rattle.dpe_client.specs.Script.{Line, right, bad_line, script_of}
 use Rattle.dpe_client.specs.Run.{Told}
-use Rattle.dpe_client.specs.Client.{ForScript, TellsScript, TellAnswers, IfRight, IfBad, RunsOnLinks, FailsAtLink, FailsAtReply, Unprinted, bad_line_said, KindKept, KindFailed, Unfailed, WordsEnd, WordsCausedBy, IsStatus, status_of, links_in}
+use Rattle.dpe_client.specs.Client.{ForScript, TellsScript, TellBytes, TellAnswers, IfRight, IfBad, RunsOnLinks, FailsAtLink, FailsAtReply, Unprinted, bad_line_said, KindKept, KindFailed, Unfailed, WordsEnd, WordsCausedBy, IsStatus, status_of, links_in}
 use Rattle.dpe_client.specs.declared.end.End.{End}
 use Rattle.dpe_client.specs.declared.end.End.TheVariants.{Done, NoMemory, NoScript, BadScript, LinkFault, BadReply, OutputFault}
-use Rattle.dpe_client.proofs.Wording.{not_bad, not_right}
+use Rattle.dpe_client.proofs.Completing.{answers_told}
+use Rattle.dpe_client.proofs.Wording.{not_bad, not_right, right_holds}
 
 -- the end that a status tells
 abbrev end_of : ℕ → End
@@ -163,6 +164,20 @@ module _ {F L : Type 0} (left : F → Option (List ℕ)) (faults : F → ℕ) (t
   complete_end BadReply h c no_link lines is answered = absurd (answered refl)
   complete_end OutputFault h c no_link lines is answered = absurd (no_out c.1)
 
+  unanswered_end : (end : End) → WordsEnd end left faults told words file_old file_new old new x0 x1 → WordsCausedBy end file_old file_new old new f0 f1 → Unfailed old new
+      → (lines : List Line) → script_of (links_in words) bytes ≡ right lines → TellBytes told old (links_in words) → (TellAnswers told old (links_in words) lines → ⊥)
+      → (status_of end ≡ 15) ⊎ (status_of end ≡ 3)
+  unanswered_end Done h c no_link lines is t none =
+      absurd (none (answers_told told (links_in words) lines old new x0 x1 t
+      (right_holds left faults words file_old file_new bytes tells (λ count ls. RunsOnLinks told count ls old new x0 x1) lines h is)))
+  unanswered_end NoMemory h c no_link lines is t none = inr refl
+  unanswered_end NoScript h c no_link lines is t none = absurd (no_script c.0)
+  unanswered_end BadScript h c no_link lines is t none =
+      absurd (not_right left faults words file_old file_new bytes tells (new ≡ old) (λ count number. Appends x0 x1 (bad_line_said number)) lines h is)
+  unanswered_end LinkFault h c no_link lines is t none = absurd (no_link c.1.0)
+  unanswered_end BadReply h c no_link lines is t none = inl refl
+  unanswered_end OutputFault h c no_link lines is t none = absurd (no_out c.1)
+
 module _ {F L : Type 0} (r : Ran F L) where
   pub script_kept : (r.n ≡ 4 → ⊥) → KindKept r.file_old r.file_new
   script_kept e = file_kept r.file_old r.file_new r.old r.new r.f0 r.f1 r.end r.caused (λ d. e (r.is ∙ d))
@@ -191,3 +206,9 @@ module _ {F L : Type 0} (r : Ran F L) where
       subst (λ (n : ℕ). (n ≡ 0) ⊎ (n ≡ 3)) (sym r.is)
       (complete_end r.left r.faults r.told r.words r.file_old r.file_new r.old r.new r.x0 r.x1 r.f0 r.f1 bytes tells no_script no_out r.end r.ends r.caused no_link lines is
       (r.answered bytes lines tells is t))
+
+  pub unanswered : (bytes : List ℕ) (lines : List Line) → TellsScript r.left r.file_old bytes → script_of (links_in r.words) bytes ≡ right lines → TellBytes r.told r.old (links_in r.words)
+      → (TellAnswers r.told r.old (links_in r.words) lines → ⊥) → Unfailed r.file_old r.file_new → Unfailed r.old r.new → (Rose r.f0 r.f1 → ⊥) → (r.n ≡ 15) ⊎ (r.n ≡ 3)
+  unanswered bytes lines tells is t none no_script no_link no_out =
+      subst (λ (n : ℕ). (n ≡ 15) ⊎ (n ≡ 3)) (sym r.is)
+      (unanswered_end r.left r.faults r.told r.words r.file_old r.file_new r.old r.new r.x0 r.x1 r.f0 r.f1 bytes tells no_script no_out r.end r.ends r.caused no_link lines is t none)

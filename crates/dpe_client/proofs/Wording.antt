@@ -60,6 +60,9 @@ pub bad_not_right : (s : Script) (P : ℕ → Type 0) (lines : List Line) → If
 bad_not_right (right l) P lines h e = h
 bad_not_right (bad_line n) P lines h e = cc
 
+right_at : (s : Script) (P : List Line → Type 0) (lines : List Line) → IfRight s P → s ≡ right lines → P lines
+right_at s P lines h e = subst (λ (t : Script). IfRight t P) e h
+
 -- ---- the words
 
 -- the links that the words behind the first one name
@@ -119,6 +122,11 @@ module _ {F : Type 0} (left : F → Option (List ℕ)) (faults : F → ℕ) (wor
   pub not_bad : (P : ℕ → List Line → Type 0) (number : ℕ) → ForScript left faults words old new (λ count script. IfRight script (P count)) → script_of (links_in words) bytes ≡ bad_line number → ⊥
   not_bad P number f is =
       right_not_bad (script_of (links_in words) f.text) (P (links_in words)) number f.holds
+      (same_script left faults (links_in words) (max_script + 1) old new f.text bytes refl f.loads tells ∙ is)
+
+  pub right_holds : (P : ℕ → List Line → Type 0) (lines : List Line) → ForScript left faults words old new (λ count script. IfRight script (P count)) → script_of (links_in words) bytes ≡ right lines → P (links_in words) lines
+  right_holds P lines f is =
+      right_at (script_of (links_in words) f.text) (P (links_in words)) lines f.holds
       (same_script left faults (links_in words) (max_script + 1) old new f.text bytes refl f.loads tells ∙ is)
 
   pub not_right : (Q : Type 0) (P : ℕ → ℕ → Type 0) (lines : List Line) → ForScript left faults words old new (λ count script. Q × IfBad script (P count)) → script_of (links_in words) bytes ≡ right lines → ⊥

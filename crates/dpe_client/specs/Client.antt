@@ -255,6 +255,12 @@ pub record TellsScript {F : Type 0} (left : F → Option (List ℕ)) (kind : Kin
   pub first : kind.unopened ≡ Some (file ∷ later)
   pub bytes_are : left file ≡ Some bytes
 
+-- the links to be opened tell what they will give
+pub record TellBytes {L : Type 0} (told : L → Told) (kind : Kind L) (count : ℕ) : Type 0 where
+  pub links : List L
+  pub are : kind.unopened ≡ Some links
+  pub give : (k : ℕ) (d : L) → k < count → (bytes : List ℕ) × ((told_at told links k d).left ≡ Some bytes)
+
 -- The links to be opened tell what they will give: on each the answers to its lines, one to each line of all.
 pub record TellAnswers {L : Type 0} (told : L → Told) (kind : Kind L) (count : ℕ) (lines : List Line) : Type 0 where
   pub answers : List Answer

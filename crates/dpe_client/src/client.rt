@@ -4,7 +4,7 @@ ghost use Rattle.std.specs.List.{list_all};
 ghost use Rattle.std.specs.Vec.{vec_capacity};
 ghost use Rattle.std.specs.Io.KnownBytes.{Appends};
 ghost use Rattle.dpe_io.specs.Causes.{Rose};
-ghost use Rattle.dpe_client.specs.Client.{is_path, are_right as are_words_right, links_in, bad_line_said, fault_said, Loads, KindKept, KindFailed, HasKindCause, Ends, EndCausedBy, WordsEnd, WordsCausedBy, IsStatus, status_of, ForScript, ForLines, IfBad, RunsOnLinks, FailsAtLink, FailsAtReply, Unprinted, Unfailed, TellsScript, TellAnswers};
+ghost use Rattle.dpe_client.specs.Client.{is_path, are_right as are_words_right, links_in, bad_line_said, fault_said, Loads, KindKept, KindFailed, HasKindCause, Ends, EndCausedBy, WordsEnd, WordsCausedBy, IsStatus, status_of, ForScript, ForLines, IfBad, RunsOnLinks, FailsAtLink, FailsAtReply, Unprinted, Unfailed, TellsScript, TellBytes, TellAnswers};
 ghost use Rattle.dpe_client.specs.CodeNames.{names_of};
 ghost use Rattle.dpe_client.specs.CodeScript.{AreBelow, AreKnown, IsLineInRange, IsLineKnown, lines_are};
 ghost use Rattle.dpe_client.specs.CodeValues.{IsReady, values_of};
@@ -294,7 +294,8 @@ pub fn client_main<D: Dock, O: Sink>(alloc: Global, words: &[&str], dock: &mut D
     ensures script_back { (D.scripts dock.new).out ≡ (D.scripts dock.old).out }
     ensures links_back { (D.links dock.new).out ≡ (D.links dock.old).out }
 
-    // Right words, and no count that rose: a bad script gives 13, and a right one to whose lines each link answers gives 0; or 3.
+    // Right words, and no count that rose: a bad script gives 13, and a right one 0 where the links tell answers to its lines, and 15
+    // where they tell something else; or 3.
     ensures refused { (bytes : List ℕ) (number : ℕ) → are_words_right (texts words.now) ≡ true
         → TellsScript D.File.left (D.scripts dock.old) bytes → script_of (links_in (texts words.now)) bytes ≡ bad_line number
         → Unfailed (D.scripts dock.old) (D.scripts dock.new) → (Rose (O.faults out.old) (O.faults out.new) → ⊥)
@@ -305,6 +306,14 @@ pub fn client_main<D: Dock, O: Sink>(alloc: Global, words: &[&str], dock: &mut D
         (links_in (texts words.now)) lines
         → Unfailed (D.scripts dock.old) (D.scripts dock.new) → Unfailed (D.links dock.old) (D.links dock.new)
         → (Rose (O.faults out.old) (O.faults out.new) → ⊥) → (result ≡ 0) ⊎ (result ≡ 3) }
+    ensures unanswered { (bytes : List ℕ) (lines : List ScriptLine) → are_words_right (texts words.now) ≡ true
+        → TellsScript D.File.left (D.scripts dock.old) bytes → script_of (links_in (texts words.now)) bytes ≡ right lines
+        → TellBytes (told_by D.Link.Source.left D.Link.Sink.bytes D.Link.Source.faults D.Link.Sink.faults) (D.links dock.old)
+        (links_in (texts words.now))
+        → (TellAnswers (told_by D.Link.Source.left D.Link.Sink.bytes D.Link.Source.faults D.Link.Sink.faults) (D.links dock.old)
+        (links_in (texts words.now)) lines → ⊥)
+        → Unfailed (D.scripts dock.old) (D.scripts dock.new) → Unfailed (D.links dock.old) (D.links dock.new)
+        → (Rose (O.faults out.old) (O.faults out.new) → ⊥) → (result ≡ 15) ⊎ (result ≡ 3) }
 {
     if !are_right(words) {
         return 2;

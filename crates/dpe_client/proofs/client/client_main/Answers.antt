@@ -1,6 +1,6 @@
 use Rattle.dpe_client.specs.Values.{texts}
 use Rattle.dpe_client.specs.Run.{told_by}
-use Rattle.dpe_client.proofs.Statuses.{Ran, at_done, at_no_memory, at_no_script, at_bad, at_bad_unopened, at_link, at_reply, at_unprinted, script_fault, link_fault, out_fault, script_kept, links_kept, out_kept, has_status, is_not_two, refused, complete}
+use Rattle.dpe_client.proofs.Statuses.{Ran, at_done, at_no_memory, at_no_script, at_bad, at_bad_unopened, at_link, at_reply, at_unprinted, script_fault, link_fault, out_fault, script_kept, links_kept, out_kept, has_status, is_not_two, refused, complete, unanswered}
 use Rattle.dpe_client.proofs.client.client_main.Goals as goal
 
 pub returns : goal.returns
@@ -47,4 +47,5 @@ returns g c =
       links_back = c.run_words-end.ensures.links_back;
       refused = λ bytes number right tells is no_script no_out. refused r bytes number tells is no_script no_out;
       complete = λ bytes lines right tells is t no_script no_link no_out. complete r bytes lines tells is t no_script no_link no_out;
+      unanswered = λ bytes lines right tells is t none no_script no_link no_out. unanswered r bytes lines tells is t none no_script no_link no_out;
     }
