@@ -45,7 +45,7 @@ pub record IsUnread {T : Type 0} (left : T → Option (List ℕ)) (faults : T �
   pub rose : Rose 0 (faults after)
   pub few : TakesFew (left file) (left after)
 
--- the seed's file couldn't be opened, or not read
+-- the seed's file couldn't be opened or read
 abbrev pub HasNoSeed : {T : Type 0} → (T → Option (List ℕ)) → (T → ℕ) → Kind T → Kind T → Type 0
 HasNoSeed left faults old new = OpensNone old new ⊎ IsUnread left faults old new
 

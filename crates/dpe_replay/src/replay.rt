@@ -138,7 +138,8 @@ fn status_of_end(end: End) -> u8
 
 /// Audits a journal, as the words ask for: `check SEED JOURNAL`, `live SEED JOURNAL`, `list JOURNAL` or
 /// `connection JOURNAL CALLER CONNECTION`. The files of the shelf are opened in the order of these words, and each is
-/// handed back. What is answered is the program's exit status.
+/// handed back. What is answered is the program's exit status: 0 whole, and legal where replies are compared; 2 words out
+/// of form; 3 no memory; 4 a file unread; 7 output; 8 not 32 bytes of seed; 11 no journal; 12 a reply that differs.
 pub fn replay_main<F: Shelf, O: Sink>(
     alloc: Global,
     words: &[&str],

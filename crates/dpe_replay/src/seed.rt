@@ -18,7 +18,7 @@ pub enum SeedFile {
     Holds([u8; SEED_SIZE]),
     /// More or fewer bytes than a seed.
     WrongSize,
-    /// It couldn't be opened, or not read.
+    /// It couldn't be opened or read.
     Unread,
 }
 
