@@ -43,13 +43,10 @@ Ends ends.WrongSeed mode seed old new got_old got_new = ⊥
 
 -- the counts that rose, of the source and of the sink
 abbrev pub HasEndCause : End → ℕ → ℕ → ℕ → ℕ → Type 0
-HasEndCause ends.Whole reads reads_now writes writes_now = (reads_now ≡ reads) × (writes_now ≡ writes)
-HasEndCause ends.NoJournal reads reads_now writes writes_now = (reads_now ≡ reads) × (writes_now ≡ writes)
-HasEndCause ends.Differs reads reads_now writes writes_now = (reads_now ≡ reads) × (writes_now ≡ writes)
 HasEndCause ends.ReadFault reads reads_now writes writes_now = Rose reads reads_now × (writes_now ≡ writes)
 HasEndCause ends.WriteFault reads reads_now writes writes_now = Rose writes writes_now
-HasEndCause ends.NoMemory reads reads_now writes writes_now = (reads_now ≡ reads) × (writes_now ≡ writes)
 HasEndCause ends.WrongSeed reads reads_now writes writes_now = ⊥
+HasEndCause end reads reads_now writes writes_now = (reads_now ≡ reads) × (writes_now ≡ writes)
 
 abbrev pub end_of : RecordFault → End
 end_of (Malformed place) = ends.NoJournal
@@ -64,10 +61,6 @@ Told end text got_old got_new writes writes_now result =
 
 -- a text was printed whole, behind which the output is flushed
 abbrev pub IsPrinted : End → Type 0
-IsPrinted ends.Whole = Unit {0}
-IsPrinted ends.NoJournal = Unit {0}
-IsPrinted ends.Differs = Unit {0}
-IsPrinted ends.ReadFault = Unit {0}
 IsPrinted ends.WriteFault = ⊥
 IsPrinted ends.NoMemory = ⊥
-IsPrinted ends.WrongSeed = Unit {0}
+IsPrinted end = Unit {0}

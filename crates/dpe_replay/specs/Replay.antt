@@ -87,13 +87,9 @@ module _ {T : Type 0} (left : T → Option (List ℕ)) (faults : T → ℕ) wher
 
   -- the journal was audited; or nothing was printed, since a file couldn't be opened or the seed not taken
   abbrev pub RunEnds : Mode → Kind T → Kind T → Option (List ℕ) → Option (List ℕ) → End → Type 0
-  RunEnds mode old new got_old got_new ends.Whole = Replays mode old new got_old got_new ends.Whole
-  RunEnds mode old new got_old got_new ends.NoJournal = Replays mode old new got_old got_new ends.NoJournal
-  RunEnds mode old new got_old got_new ends.Differs = Replays mode old new got_old got_new ends.Differs
   RunEnds mode old new got_old got_new ends.ReadFault = FailsToRead mode old new got_old got_new
-  RunEnds mode old new got_old got_new ends.WriteFault = Replays mode old new got_old got_new ends.WriteFault
-  RunEnds mode old new got_old got_new ends.NoMemory = Replays mode old new got_old got_new ends.NoMemory
   RunEnds mode old new got_old got_new ends.WrongSeed = Judges mode × HasWrongSize left faults old new
+  RunEnds mode old new got_old got_new end = Replays mode old new got_old got_new end
 
   -- the same for one file, before which others were opened
   abbrev pub FileEnds : Mode → List ℕ → Kind T → ℕ → Kind T → Option (List ℕ) → Option (List ℕ) → End → Type 0
@@ -126,13 +122,9 @@ TellsFiles left (connection caller number) seed bytes files = (seed ≡ []) × T
 
 -- the counts that rose, of the files and of the output
 abbrev pub HasRunCause : {T : Type 0} → End → Kind T → Kind T → ℕ → ℕ → Type 0
-HasRunCause ends.Whole old new writes written = SameCounts old new × (written ≡ writes)
-HasRunCause ends.NoJournal old new writes written = SameCounts old new × (written ≡ writes)
-HasRunCause ends.Differs old new writes written = SameCounts old new × (written ≡ writes)
 HasRunCause ends.ReadFault old new writes written = CountRose old new × (written ≡ writes)
 HasRunCause ends.WriteFault old new writes written = Rose writes written
-HasRunCause ends.NoMemory old new writes written = SameCounts old new × (written ≡ writes)
-HasRunCause ends.WrongSeed old new writes written = SameCounts old new × (written ≡ writes)
+HasRunCause end old new writes written = SameCounts old new × (written ≡ writes)
 
 -- the fault is one of the bytes
 abbrev pub IsOfBytes : RecordFault → Type 0
