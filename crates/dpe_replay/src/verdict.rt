@@ -30,10 +30,7 @@ fn print_contexts<O: Sink>(core: &Core, out: &mut O) -> Result<(), Failed>
     ensures cause { HasCause (O.faults out.old) (O.faults out.new) result }
 {
     for at in 0..core.live() {
-        match print(out, live_line(&core.row(at)).bytes()) {
-            Ok(()) => {}
-            Err(Failed) => return Err(Failed),
-        }
+        print(out, live_line(&core.row(at)).bytes())?;
     }
     Ok(())
 }
@@ -102,10 +99,8 @@ fn print_replies<O: Sink>(recorded: &[u8], computed: &[u8], out: &mut O) -> Resu
         (printed.replies_text recorded.now computed.now)) }
     ensures cause { HasCause (O.faults out.old) (O.faults out.new) result }
 {
-    match print_bytes(b"recorded ", recorded, out) {
-        Ok(()) => print_bytes(b"computed ", computed, out),
-        Err(Failed) => Err(Failed),
-    }
+    print_bytes(b"recorded ", recorded, out)?;
+    print_bytes(b"computed ", computed, out)
 }
 
 /// Prints the number of the first entry whose reply differs, and the two replies.
@@ -123,10 +118,8 @@ pub fn print_difference<O: Sink>(
         (printed.difference_text number recorded.now computed.now)) }
     ensures cause { HasCause (O.faults out.old) (O.faults out.new) result }
 {
-    match print_number(b"entry ", u64::from(number), out) {
-        Ok(()) => print_replies(recorded, computed, out),
-        Err(Failed) => Err(Failed),
-    }
+    print_number(b"entry ", u64::from(number), out)?;
+    print_replies(recorded, computed, out)
 }
 
 /// Prints where a journal is malformed or truncated, and nothing of a read fault.

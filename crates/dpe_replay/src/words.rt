@@ -169,12 +169,8 @@ fn connection_of<'a>(matches: &ArgMatches<'a>) -> Option<Request<'a>>
     ensures none { (words : List (List ℕ)) → AsksThree words (Some (codes "connection", rows_of (found_of matches.now)))
         → IfNone result ((caller number : ℕ) → NamesConnection words caller number → ⊥) }
 {
-    let Some(caller) = parse_u32(word_of(matches, "caller")) else {
-        return None;
-    };
-    let Some(number) = parse_u32(word_of(matches, "number")) else {
-        return None;
-    };
+    let caller = parse_u32(word_of(matches, "caller"))?;
+    let number = parse_u32(word_of(matches, "number"))?;
     Some(Request::Connection {
         journal: word_of(matches, "journal"),
         caller,
