@@ -372,15 +372,16 @@ fn each_read_of_the_seed_that_fails_is_told(rt: HostRuntime) -> Result<(), Fail>
     Ok(())
 }
 
-// How many reads of the journal, from the first on, give 4 and a front of these lines where they fail; and the status where
-// the next one is to fail.
+// How many reads of the journal, from the first on, give 4 and a front of these lines where they fail; the status where the
+// next one is to fail; and what is printed where the last of them fails.
 fn told_reads(
     alloc: Global,
     words: &[&str],
     seed: Option<&[u8]>,
     journal: &[u8],
     lines: &[u8],
-) -> Result<(u32, u8), Fail> {
+) -> Result<(u32, u8, Vec<u8>), Fail> {
+    let mut last = Vec::new(alloc);
     for call in 0..100u32 {
         let failing = Failing {
             journal: &[call],
@@ -388,20 +389,22 @@ fn told_reads(
         };
         let (status, text) = audit(alloc, words, seed, journal, failing)?;
         if status != 4 || !lines.starts_with(&text) {
-            return Ok((call, status));
+            return Ok((call, status, last));
         }
+        last = text;
     }
-    Ok((100, 4))
+    Ok((100, 4, last))
 }
 
 #[test]
 fn each_read_of_the_journal_that_fails_is_told(rt: HostRuntime) -> Result<(), Fail> {
     let journal = initialized(rt.alloc())?;
     for words in JUDGING {
-        let (told, status) = told_reads(rt.alloc(), words, Some(&SEED), &journal, b"")?;
+        let (told, status, last) = told_reads(rt.alloc(), words, Some(&SEED), &journal, b"")?;
         // the header, two records, the end, and what is behind it
         assert!(rt; told >= 5);
         assert_eq!(rt; status, 0);
+        assert!(rt; last.is_empty());
     }
     let journal = profiles(rt.alloc(), 1)?;
     let check: &[&str] = &["check", "s", "j"];
@@ -410,9 +413,11 @@ fn each_read_of_the_journal_that_fails_is_told(rt: HostRuntime) -> Result<(), Fa
         (LISTING[0], None, b"0 7 0 0 0 1 0\n".as_slice()),
         (LISTING[1], None, PROFILE_LINE.as_slice()),
     ] {
-        let (told, status) = told_reads(rt.alloc(), words, seed, &journal, lines)?;
+        let (told, status, last) = told_reads(rt.alloc(), words, seed, &journal, lines)?;
         assert!(rt; told >= 4);
         assert_eq!(rt; status, 0);
+        // the read behind the end fails once the record was printed
+        assert_eq!(rt; last.as_slice(), lines);
     }
     Ok(())
 }
