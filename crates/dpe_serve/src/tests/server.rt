@@ -27,6 +27,12 @@ static WRONG_WORDS: [[&str; 6]; 8] = [
 // What is printed where one connection sent one GetProfile.
 static ONE_SERVED: &str = "connections 1\ncommands 1\nrefused 0\nfull 0\ncut 0\n";
 
+// The same where the command couldn't be read, or has no random bytes.
+static NONE_SERVED: &str = "connections 1\ncommands 0\nrefused 0\nfull 0\ncut 1\n";
+
+// The same where its reply couldn't be written.
+static ONE_UNSENT: &str = "connections 1\ncommands 1\nrefused 0\nfull 0\ncut 1\n";
+
 // The frame of an InitializeContext.
 static INITIALIZE: [u8; 10] = [0, 0, 0, 6, 0x82, 0x00, 0x43, 0x82, 0x07, 0xa0];
 
@@ -64,11 +70,15 @@ static NO_ENTRY: [u8; 22] = [
     0x44, 0x50, 0x45, 0x4a, 1, 0, 0, 0, 0, 0, 0, 0, 1, 0xff, 0, 0, 0, 0, 0, 0, 0, 0,
 ];
 
-// The calls that fail: of the seed, of the first door, of the journal, of the house's openings, and of the output.
+// The calls that fail: of the seed, of the first door, the reads and writes of its connection, the draws of the first
+// entropy, and the calls of the journal, of the house's openings, and of the output.
 #[derive(Clone, Copy)]
 struct Failing<'a> {
     seed: &'a [u32],
     door: &'a [u32],
+    reads: &'a [u32],
+    writes: &'a [u32],
+    draws: &'a [u32],
     journal: &'a [u32],
     openings: &'a [u32],
     out: &'a [u32],
@@ -77,26 +87,29 @@ struct Failing<'a> {
 const NONE_FAILS: Failing<'static> = Failing {
     seed: &[],
     door: &[],
+    reads: &[],
+    writes: &[],
+    draws: &[],
     journal: &[],
     openings: &[],
     out: &[],
 };
 
 // A connection that sends these bytes.
-fn conn_of(alloc: Global, sent: &[u8]) -> Result<MemConn, AllocError>
+fn conn_of(alloc: Global, sent: &[u8], failing: &Failing<'_>) -> Result<MemConn, AllocError>
     ensures { IfOk result IsFaultless }
 {
-    let source = MemSource::new(alloc, sent, 7, &[])?;
-    let sink = MemSink::new(alloc, 9_000, 9_000, &[])?;
+    let source = MemSource::new(alloc, sent, 7, failing.reads)?;
+    let sink = MemSink::new(alloc, 9_000, 9_000, failing.writes)?;
     Ok(MemConn::new(source, sink))
 }
 
 // A door with one connection that sends these bytes.
-fn door_of(alloc: Global, sent: &[u8], failing: &[u32]) -> Result<MemDoor, AllocError>
+fn door_of(alloc: Global, sent: &[u8], failing: &Failing<'_>) -> Result<MemDoor, AllocError>
     ensures { IfOk result IsUnused }
 {
-    let waiting = vec![in alloc; conn_of(alloc, sent)?]?;
-    MemDoor::new(alloc, waiting, failing)
+    let waiting = vec![in alloc; conn_of(alloc, sent, failing)?]?;
+    MemDoor::new(alloc, waiting, failing.door)
 }
 
 // A house with this seed and these doors, and two entropies, each of words of one byte.
@@ -111,7 +124,7 @@ fn house_of(
 {
     let seed = MemSource::new(alloc, seed, 20, failing.seed)?;
     let journal = MemSink::new(alloc, 9_000, 100, failing.journal)?;
-    let first = MemEntropy::new(alloc, &[[bytes.0; 32]], &[])?;
+    let first = MemEntropy::new(alloc, &[[bytes.0; 32]], failing.draws)?;
     let second = MemEntropy::new(alloc, &[[bytes.1; 32]], &[])?;
     let entropies = vec![in alloc; first, second]?;
     MemHouse::new(alloc, seed, journal, doors, entropies, failing.openings)
@@ -137,7 +150,7 @@ fn small_house(
     sent: &[u8],
     failing: &Failing<'_>,
 ) -> Result<MemHouse, AllocError> {
-    house_with(alloc, seed, door_of(alloc, sent, failing.door)?, failing)
+    house_with(alloc, seed, door_of(alloc, sent, failing)?, failing)
 }
 
 // Adds a connection that sends these bytes.
@@ -145,7 +158,7 @@ fn add_conn(alloc: Global, conns: &mut Vec<MemConn>, sent: &[u8]) -> Result<(), 
     requires { All IsFaultless conns.old.items }
     ensures { OnOk result (All IsFaultless conns.new.items) }
 {
-    conns.push(conn_of(alloc, sent)?)?;
+    conns.push(conn_of(alloc, sent, &NONE_FAILS)?)?;
     Ok(())
 }
 
@@ -162,8 +175,8 @@ fn door_of_faults(alloc: Global) -> Result<MemDoor, AllocError>
 
 // Two doors, at each of which a connection makes the root. The random bytes are ones and twos.
 fn house_of_two(alloc: Global) -> Result<MemHouse, AllocError> {
-    let first = door_of(alloc, &INITIALIZE, &[])?;
-    let second = door_of(alloc, &INITIALIZE, &[])?;
+    let first = door_of(alloc, &INITIALIZE, &NONE_FAILS)?;
+    let second = door_of(alloc, &INITIALIZE, &NONE_FAILS)?;
     let doors = vec![in alloc; first, second]?;
     house_of(alloc, &[0; 32], doors, (1, 2), &NONE_FAILS)
 }
@@ -381,32 +394,90 @@ fn each_failing_opening_has_its_status(rt: HostRuntime) -> Result<(), Fail> {
 #[test]
 fn each_failing_call_has_its_status(rt: HostRuntime) -> Result<(), Fail> {
     let alloc = rt.alloc();
-    let seed = Failing {
-        seed: &[1],
-        ..NONE_FAILS
-    };
-    check_failure(&rt, alloc, &seed, 4, None, (0, 0))?;
+    // reads of 20 and of 12 bytes, and of the end
+    for call in [0, 1, 2] {
+        let seed = Failing {
+            seed: &[call],
+            ..NONE_FAILS
+        };
+        check_failure(&rt, alloc, &seed, 4, None, (0, 0))?;
+    }
     let door = Failing {
         door: &[0],
         ..NONE_FAILS
     };
     check_failure(&rt, alloc, &door, 5, Some(&NO_ENTRY), (1, 1))?;
-    let journal = Failing {
-        journal: &[0],
-        ..NONE_FAILS
-    };
-    check_failure(&rt, alloc, &journal, 6, Some(&[]), (1, 1))?;
-    // writes of 100 and of 12 bytes, and then the flush
-    let flush = Failing {
-        journal: &[2],
-        ..NONE_FAILS
-    };
-    check_failure(&rt, alloc, &flush, 6, Some(&ONE_ENTRY), (1, 1))?;
     let out = Failing {
         out: &[0],
         ..NONE_FAILS
     };
     check_failure(&rt, alloc, &out, 7, Some(&ONE_ENTRY), (1, 1))
+}
+
+#[test]
+fn each_failing_call_of_the_journal_is_told(rt: HostRuntime) -> Result<(), Fail> {
+    // writes of 100 and of 12 bytes, and the flush
+    for (call, journal) in [
+        (0, &ONE_ENTRY[..0]),
+        (1, &ONE_ENTRY[..100]),
+        (2, ONE_ENTRY.as_slice()),
+    ] {
+        let failing = Failing {
+            journal: &[call],
+            ..NONE_FAILS
+        };
+        check_failure(&rt, rt.alloc(), &failing, 6, Some(journal), (1, 1))?;
+    }
+    Ok(())
+}
+
+// What is printed where calls fail and the server answers 0, and what its connection and the journal got.
+fn check_served<R: Threads + Wait + Sync + Abort>(
+    rt: &R,
+    alloc: Global,
+    failing: &Failing<'_>,
+    printed: &str,
+    got: &[u8],
+    journal: &[u8],
+) -> Result<(), Fail> {
+    let house = small_house(alloc, &[0; 32], &COMMAND, failing)?;
+    let ended = serve(rt, alloc, &WORDS, house, failing.out)?;
+    assert_eq!(rt; (ended.status, ended.back), (0, (1, 1)));
+    assert_eq!(rt; ended.printed.as_slice(), printed.as_bytes());
+    assert_eq!(rt; ended.got, apart(alloc, &[got])?);
+    assert_eq!(rt; ended.journal.as_deref(), Some(journal));
+    Ok(())
+}
+
+#[test]
+fn a_fault_of_a_connection_changes_no_status(rt: HostRuntime) -> Result<(), Fail> {
+    let alloc = rt.alloc();
+    let read = Failing {
+        reads: &[0],
+        ..NONE_FAILS
+    };
+    check_served(&rt, alloc, &read, NONE_SERVED, &[], &NO_ENTRY)?;
+    let draw = Failing {
+        draws: &[0],
+        ..NONE_FAILS
+    };
+    check_served(&rt, alloc, &draw, NONE_SERVED, &[], &NO_ENTRY)?;
+    let write = Failing {
+        writes: &[0],
+        ..NONE_FAILS
+    };
+    check_served(&rt, alloc, &write, ONE_UNSENT, &[], &ONE_ENTRY)
+}
+
+#[test]
+fn a_failure_behind_the_last_call_is_none(rt: HostRuntime) -> Result<(), Fail> {
+    // the journal has three calls, the output two
+    let failing = Failing {
+        journal: &[3],
+        out: &[2],
+        ..NONE_FAILS
+    };
+    check_served(&rt, rt.alloc(), &failing, ONE_SERVED, &REPLY, &ONE_ENTRY)
 }
 
 #[test]
