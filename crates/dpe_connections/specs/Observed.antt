@@ -1,11 +1,13 @@
 -- The ending of a connection, as it is seen from the outside.
-use Rattle.std.specs.Prelude.{Bool, nat_lt, ◌==◌, if◌then◌else◌, ℕ, ◌-◌, ◌≡◌, List, [], ◌∷◌, length, Option, None, IsSome}
+use Rattle.std.specs.Prelude.{Bool, nat_lt, ◌==◌, if◌then◌else◌, ℕ, ◌-◌, ◌≡◌, List, [], ◌∷◌, length, Option, None}
+use Rattle.std.specs.Prelude.{IsSome}
 use Rattle.std.specs.Str.{bytes_eq}
 use Rattle.dpe_io.specs.Causes.{Rose}
 use Rattle.dpe_link.specs.Frames.{told_length}
 use Rattle.dpe_model.specs.History.{Entry}
 use Rattle.dpe_connections.specs.Conn.{Conn}
-use Rattle.dpe_connections.specs.Endings.{Ending, closed, cut, too_long, read_fault, entropy_fault, full, reply_fault, refusal_fault, HasEntropyCause, KeepsTicket}
+use Rattle.dpe_connections.specs.Endings.{Ending, closed, cut, too_long, read_fault, entropy_fault, full, reply_fault}
+use Rattle.dpe_connections.specs.Endings.{refusal_fault, HasEntropyCause, KeepsTicket}
 use Rattle.dpe_connections.specs.Served.{output, Served}
 
 -- how the source ended, by what stands behind the last whole frame
@@ -13,7 +15,8 @@ abbrev pub rest_ending : List ℕ → Ending
 rest_ending [] = closed
 rest_ending (b ∷ bytes) =
     if nat_lt (length (b ∷ bytes)) 4 then cut (length (b ∷ bytes))
-    else (if nat_lt 4096 (told_length (b ∷ bytes)) then too_long (told_length (b ∷ bytes)) else cut (length (b ∷ bytes)))
+    else (if nat_lt 4096 (told_length (b ∷ bytes)) then too_long (told_length (b ∷ bytes))
+    else cut (length (b ∷ bytes)))
 
 -- The ending of a connection that began without a fault: by the number of frames that have no entry, its counts, the rest
 -- of the bytes read, and whether the bytes written end with the refusal. The ticket of a full journal isn't seen.
@@ -25,14 +28,8 @@ observed unanswered after rest refused =
     else (if refused then full 0 else entropy_fault)))
 
 abbrev pub without_ticket : Ending → Ending
-without_ticket closed = closed
-without_ticket (cut have) = cut have
-without_ticket (too_long told) = too_long told
-without_ticket read_fault = read_fault
-without_ticket entropy_fault = entropy_fault
 without_ticket (full ticket) = full 0
-without_ticket reply_fault = reply_fault
-without_ticket refusal_fault = refusal_fault
+without_ticket ending = ending
 
 abbrev pub HasNoFault : Conn → Type 0
 HasNoFault conn = (conn.read_faults ≡ 0) × (conn.write_faults ≡ 0)
@@ -60,7 +57,8 @@ OneEnding =
 -- journal.
 abbrev pub ClosedWhereNothingFailed : Type 0
 ClosedWhereNothingFailed =
-    (capacity locality : ℕ) (entries : List Entry) (before after : Conn) (ending : Ending) (drawn_from drawn_to : ℕ) (old new : Option ℕ) →
-    (s : Served capacity locality entries before after ending) → HasEntropyCause ending drawn_from drawn_to → KeepsTicket ending old new →
-    s.rest ≡ [] → ¬ Rose before.read_faults after.read_faults → ¬ Rose before.write_faults after.write_faults →
+    (capacity locality : ℕ) (entries : List Entry) (before after : Conn) (ending : Ending) →
+    (drawn_from drawn_to : ℕ) (old new : Option ℕ) → (s : Served capacity locality entries before after ending) →
+    HasEntropyCause ending drawn_from drawn_to → KeepsTicket ending old new → s.rest ≡ [] →
+    ¬ Rose before.read_faults after.read_faults → ¬ Rose before.write_faults after.write_faults →
     ¬ Rose drawn_from drawn_to → new ≡ None → ending ≡ closed

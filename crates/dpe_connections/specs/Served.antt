@@ -8,7 +8,8 @@ use Rattle.dpe_link.specs.Reading.{IsNoFrame}
 use Rattle.dpe_messages.specs.Replies.{refusal}
 use Rattle.dpe_model.specs.History.{Entry}
 use Rattle.dpe_connections.specs.Conn.{Conn, KeepsCounts}
-use Rattle.dpe_connections.specs.Endings.{Ending, closed, cut, too_long, read_fault, entropy_fault, full, reply_fault, refusal_fault, unanswered}
+use Rattle.dpe_connections.specs.Endings.{Ending, closed, cut, too_long, read_fault, full, reply_fault, refusal_fault}
+use Rattle.dpe_connections.specs.Endings.{unanswered}
 
 -- the code of the refusal that a full journal gives
 abbrev pub journal_full : ℕ
@@ -16,7 +17,8 @@ journal_full = 26
 
 -- the frames of the replies of the entries, and then so many frames of that refusal
 abbrev pub output : List Entry → ℕ → List ℕ
-output entries refusals = flat_map (λ e. frame e.reply) entries ++ flat_map frame (replicate refusals (refusal journal_full))
+output entries refusals =
+    flat_map (λ e. frame e.reply) entries ++ flat_map frame (replicate refusals (refusal journal_full))
 
 -- The entries answer the payloads from the front on, at this locality, with indices that rise by one.
 abbrev pub AnswerInOrder : ℕ → ℕ → List Entry → List (List ℕ) → Type 0
@@ -27,36 +29,27 @@ AnswerInOrder locality index (e ∷ es) (p ∷ ps) =
 
 -- what is left of the bytes that were read, behind the last whole frame
 abbrev pub IsRest : Ending → List ℕ → Type 0
-IsRest closed rest = rest ≡ []
 IsRest (cut have) rest = IsUnfinished rest × (length rest ≡ have)
 IsRest (too_long told) rest = (length rest ≡ 4) × (told_length rest ≡ told) × (4096 < told)
 IsRest read_fault rest = IsNoFrame rest
-IsRest entropy_fault rest = rest ≡ []
-IsRest (full ticket) rest = rest ≡ []
-IsRest reply_fault rest = rest ≡ []
-IsRest refusal_fault rest = rest ≡ []
+IsRest ending rest = rest ≡ []
 
--- which of the two counts rose: that of a call that failed. The other is as before
+-- Which of the two counts rose: that of a call that failed. The other is as before.
 abbrev pub Faults : Ending → Conn → Conn → Type 0
-Faults closed before after = KeepsCounts before after
-Faults (cut have) before after = KeepsCounts before after
-Faults (too_long told) before after = KeepsCounts before after
-Faults read_fault before after = Rose before.read_faults after.read_faults × (after.write_faults ≡ before.write_faults)
-Faults entropy_fault before after = KeepsCounts before after
-Faults (full ticket) before after = KeepsCounts before after
-Faults reply_fault before after = (after.read_faults ≡ before.read_faults) × Rose before.write_faults after.write_faults
-Faults refusal_fault before after = (after.read_faults ≡ before.read_faults) × Rose before.write_faults after.write_faults
+Faults read_fault before after =
+    Rose before.read_faults after.read_faults × (after.write_faults ≡ before.write_faults)
+Faults reply_fault before after =
+    (after.read_faults ≡ before.read_faults) × Rose before.write_faults after.write_faults
+Faults refusal_fault before after =
+    (after.read_faults ≡ before.read_faults) × Rose before.write_faults after.write_faults
+Faults ending before after = KeepsCounts before after
 
 -- what else is behind the end: the source is at its end, or the ticket is at least the capacity
 abbrev pub Cause : Ending → ℕ → Conn → Type 0
 Cause closed capacity after = IsAtEnd after.left
 Cause (cut have) capacity after = IsAtEnd after.left
-Cause (too_long told) capacity after = Unit {0}
-Cause read_fault capacity after = Unit {0}
-Cause entropy_fault capacity after = Unit {0}
 Cause (full ticket) capacity after = capacity ≤ ticket
-Cause reply_fault capacity after = Unit {0}
-Cause refusal_fault capacity after = Unit {0}
+Cause ending capacity after = Unit {0}
 
 -- all entries but the last
 abbrev pub all_but_last : List Entry → List Entry
@@ -64,15 +57,11 @@ all_but_last entries = take (length entries - 1) entries
 
 -- the bytes written
 abbrev pub Writes : Ending → List Entry → List ℕ → Type 0
-Writes closed entries wrote = wrote ≡ output entries 0
-Writes (cut have) entries wrote = wrote ≡ output entries 0
-Writes (too_long told) entries wrote = wrote ≡ output entries 0
-Writes read_fault entries wrote = wrote ≡ output entries 0
-Writes entropy_fault entries wrote = wrote ≡ output entries 0
 Writes (full ticket) entries wrote = wrote ≡ output entries 1
 Writes reply_fault entries wrote =
     (0 < length entries) × IsPrefix (output (all_but_last entries) 0) wrote × IsPrefix wrote (output entries 0)
 Writes refusal_fault entries wrote = IsPrefix (output entries 0) wrote × IsPrefix wrote (output entries 1)
+Writes ending entries wrote = wrote ≡ output entries 0
 
 -- A connection at this locality was answered by these entries, from one state of it to the other, and ended so.
 pub record Served (capacity locality : ℕ) (entries : List Entry) (before after : Conn) (ending : Ending) : Type 0 where

@@ -12,11 +12,12 @@ use Rattle.dpe_connections.specs.Served.{Served}
 abbrev pub IsOn : ℕ → ℕ → Entry → Type 0
 IsOn caller connection e = (e.caller ≡ caller) × (e.connection ≡ connection)
 
--- A connection was served by just these entries, which the pass made, and ended so.
-pub record ServedBy (caller connection capacity locality : ℕ) (ending : Ending) (v w : Seat) (before after : Conn) (words left : Option (List (List ℕ))) : Type 0 where
-  pub entries : List Entry
-  pub made : MadeJust v entries w
-  pub ours : AllByRecursion (IsOn caller connection) entries
-  pub quiet : v.full ≢ None → entries ≡ []
-  pub served : Served capacity locality entries before after ending
-  pub drawn : Draws entries (words_more ending) words left
+module _ (caller connection capacity locality : ℕ) (ending : Ending) where
+  -- A connection was served by just these entries, which the pass made, and ended so.
+  pub record ServedBy (v w : Seat) (before after : Conn) (words left : Option (List (List ℕ))) : Type 0 where
+    pub entries : List Entry
+    pub made : MadeJust v entries w
+    pub ours : AllByRecursion (IsOn caller connection) entries
+    pub quiet : v.full ≢ None → entries ≡ []
+    pub served : Served capacity locality entries before after ending
+    pub drawn : Draws entries (words_more ending) words left

@@ -6,7 +6,7 @@ use Rattle.dpe_io.specs.Causes.{Rose}
 use Rattle.dpe_link.specs.Frames.{frame}
 use Rattle.dpe_messages.specs.Replies.{refusal}
 use Rattle.dpe_connections.specs.Conn.{Conn, KeepsCounts}
-use Rattle.dpe_connections.specs.Endings.{Ending, closed, cut, too_long, read_fault, entropy_fault, full, reply_fault, refusal_fault}
+use Rattle.dpe_connections.specs.Endings.{Ending, closed, cut, too_long, read_fault, entropy_fault, full, refusal_fault}
 use Rattle.dpe_connections.specs.Served.{journal_full, IsRest, Faults, Cause}
 
 -- the frame of this payload was read
@@ -31,21 +31,12 @@ ReadsNone closed old new = ReadsNoFrame closed old new
 ReadsNone (cut have) old new = ReadsNoFrame (cut have) old new
 ReadsNone (too_long told) old new = ReadsNoFrame (too_long told) old new
 ReadsNone read_fault old new = ReadsNoFrame read_fault old new
-ReadsNone entropy_fault old new = ⊥
-ReadsNone (full ticket) old new = ⊥
-ReadsNone reply_fault old new = ⊥
-ReadsNone refusal_fault old new = ⊥
+ReadsNone ending old new = ⊥
 
 -- no command was received: no frame was read, or no word could be drawn for one
 abbrev pub ReceivesNone : Ending → Conn → Conn → Type 0
-ReceivesNone closed old new = ReadsNoFrame closed old new
-ReceivesNone (cut have) old new = ReadsNoFrame (cut have) old new
-ReceivesNone (too_long told) old new = ReadsNoFrame (too_long told) old new
-ReceivesNone read_fault old new = ReadsNoFrame read_fault old new
 ReceivesNone entropy_fault old new = (payload : List ℕ) × Receives old new payload
-ReceivesNone (full ticket) old new = ⊥
-ReceivesNone reply_fault old new = ⊥
-ReceivesNone refusal_fault old new = ⊥
+ReceivesNone ending old new = ReadsNone ending old new
 
 -- this text was written
 pub record Sends (old new : Conn) (text : List ℕ) : Type 0 where
@@ -64,11 +55,6 @@ pub record SendsFront (old new : Conn) (text : List ℕ) : Type 0 where
 
 -- the refusal of a full journal was written, or a front of it
 abbrev pub Refuses : Ending → ℕ → Conn → Conn → Type 0
-Refuses closed ticket old new = ⊥
-Refuses (cut have) ticket old new = ⊥
-Refuses (too_long told) ticket old new = ⊥
-Refuses read_fault ticket old new = ⊥
-Refuses entropy_fault ticket old new = ⊥
 Refuses (full told) ticket old new = (told ≡ ticket) × Sends old new (frame (refusal journal_full))
-Refuses reply_fault ticket old new = ⊥
 Refuses refusal_fault ticket old new = SendsFront old new (frame (refusal journal_full))
+Refuses ending ticket old new = ⊥

@@ -5,7 +5,7 @@ use Rattle.dpe_journal.specs.Entries.{Sent, entry_from}
 use Rattle.dpe_link.specs.Frames.{frame}
 use Rattle.dpe_messages.specs.Replies.{refusal}
 use Rattle.dpe_connections.specs.Conn.{Conn}
-use Rattle.dpe_connections.specs.Endings.{Ending, closed, cut, too_long, read_fault, entropy_fault, full, reply_fault, refusal_fault}
+use Rattle.dpe_connections.specs.Endings.{Ending, full, reply_fault, refusal_fault}
 use Rattle.dpe_connections.specs.Passes.{Seat, MadeJust}
 use Rattle.dpe_connections.specs.Served.{journal_full}
 use Rattle.dpe_connections.specs.Steps.{Sends, SendsFront}
@@ -35,16 +35,12 @@ pub record MeetsFull (capacity ticket : ℕ) (v w : Seat) : Type 0 where
 
 -- the command got no whole reply of its own, and the connection ends so
 abbrev pub AnswersNone : Ending → ℕ → Seat → Seat → Sent → Conn → Conn → Type 0
-AnswersNone closed capacity v w sent old new = ⊥
-AnswersNone (cut have) capacity v w sent old new = ⊥
-AnswersNone (too_long told) capacity v w sent old new = ⊥
-AnswersNone read_fault capacity v w sent old new = ⊥
-AnswersNone entropy_fault capacity v w sent old new = ⊥
 AnswersNone (full ticket) capacity v w sent old new =
     MeetsFull capacity ticket v w × Sends old new (frame (refusal journal_full))
 AnswersNone reply_fault capacity v w sent old new = AnswersPart v w sent old new
 AnswersNone refusal_fault capacity v w sent old new =
     (ticket : ℕ) × MeetsFull capacity ticket v w × SendsFront old new (frame (refusal journal_full))
+AnswersNone ending capacity v w sent old new = ⊥
 
 -- one entry more was told, and there are at most as many as the capacity
 abbrev pub CountsMore : ℕ → Seat → Seat → Type 0

@@ -1,5 +1,6 @@
 -- What a worker does: the connections of one door, served one after the other.
-use Rattle.std.specs.Prelude.{ℕ, ◌+◌, ◌-◌, ◌^◌, ◌<◌, ◌≤◌, ◌≡◌, ◌≢◌, min, Bool, true, List, [], ◌∷◌, ◌++◌, length, map, count_by, Option, None}
+use Rattle.std.specs.Prelude.{ℕ, ◌+◌, ◌-◌, ◌^◌, ◌<◌, ◌≤◌, ◌≡◌, ◌≢◌, min, Bool, true, List, [], ◌∷◌, ◌++◌, length, map}
+use Rattle.std.specs.Prelude.{count_by, Option, None}
 use Rattle.std.specs.List.{AllByRecursion}
 use Rattle.dpe_io.specs.Told.{IfTold, Lists}
 use Rattle.dpe_model.specs.History.{Entry}
@@ -55,16 +56,17 @@ module _ {C : Type 0} where
   abbrev pub ended : (Ending → Bool) → List (Visit C) → ℕ
   ended test visits = count_by (λ v. test v.ending) visits
 
-  -- A door's connections were served by a pass, from its first call on, and the random bytes of their entries drawn.
-  pub record ServesDoor (tell : C → Conn) (capacity locality : ℕ) (tally : Tally) (w : Seat) (old new : Option (Lists C)) (drawn_from drawn_to : Random) : Type 0 where
-    pub visits : List (Visit C)
-    pub through : IfTold (GoThrough visits) old new
-    pub number : length visits ≡ tally.connections
-    pub faultless : AllByRecursion (IsFaultless tell) visits
-    pub served : AllServed tell capacity locality (entries_on w) 0 visits
-    pub quiet : QuietOnceFull (entries_on w) 0 visits
-    pub told : 0 < ended is_told_full visits → w.full ≢ None
-    pub drawn : Draws (history_of w.made) (ended is_told_full visits) drawn_from.words drawn_to.words
-    pub rose : RoseBy (ended is_entropy_fault visits) drawn_from.faults drawn_to.faults
-    pub full_are : tally.full ≡ ended is_full visits
-    pub cut_are : tally.cut ≡ ended is_cut visits
+  module _ (tell : C → Conn) (capacity locality : ℕ) (tally : Tally) where
+    -- A door's connections were served by a pass, from its first call on, and the random bytes of their entries drawn.
+    pub record ServesDoor (w : Seat) (old new : Option (Lists C)) (drawn_from drawn_to : Random) : Type 0 where
+      pub visits : List (Visit C)
+      pub through : IfTold (GoThrough visits) old new
+      pub number : length visits ≡ tally.connections
+      pub faultless : AllByRecursion (IsFaultless tell) visits
+      pub served : AllServed tell capacity locality (entries_on w) 0 visits
+      pub quiet : QuietOnceFull (entries_on w) 0 visits
+      pub told : 0 < ended is_told_full visits → w.full ≢ None
+      pub drawn : Draws (history_of w.made) (ended is_told_full visits) drawn_from.words drawn_to.words
+      pub rose : RoseBy (ended is_entropy_fault visits) drawn_from.faults drawn_to.faults
+      pub full_are : tally.full ≡ ended is_full visits
+      pub cut_are : tally.cut ≡ ended is_cut visits
