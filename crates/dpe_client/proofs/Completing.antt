@@ -15,7 +15,8 @@ use Rattle.dpe_client.specs.Script.{Line}
 use Rattle.dpe_client.specs.Meaning.{Answer, payload, response, IsAnswerTo, asked_of, answer_payload, got}
 use Rattle.dpe_client.specs.CodeScript.{line_of, lines_are}
 use Rattle.dpe_client.specs.declared.script.Line as code_line
-use Rattle.dpe_client.specs.Run.{Told, AreAnswers, next_line, IsNoReply, ended, too_long, refused, RunsWhole, StopsAtReply}
+use Rattle.dpe_io.specs.Told.{Told}
+use Rattle.dpe_client.specs.Run.{AreAnswers, next_line, IsNoReply, ended, too_long, refused, RunsWhole, StopsAtReply}
 use Rattle.dpe_client.specs.Client.{AllOpen, TellBytes, TellAnswers, RunsOnLinks, EndsAtReply, LinesStop}
 use Rattle.dpe_client.specs.declared.run.Cause.{Cause}
 use Rattle.dpe_client.specs.declared.run.Cause.TheVariants.{Reply}

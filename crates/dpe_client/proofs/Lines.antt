@@ -8,7 +8,8 @@ use Rattle.dpe_client.specs.declared.script.Line as code_line
 use Rattle.dpe_client.specs.CodeValues.{values_of, IsReady}
 use Rattle.dpe_client.specs.declared.values.Values as code_values
 use Rattle.dpe_client.specs.declared.run.Cause.{Cause}
-use Rattle.dpe_client.specs.Run.{Told, Exchanges, Fails, SameCounts, CausedBy, RunsWhole, Stops, RunCausedBy}
+use Rattle.dpe_io.specs.Told.{Told, KeepsCounts}
+use Rattle.dpe_client.specs.Run.{Exchanges, Fails, CausedBy, RunsWhole, Stops, RunCausedBy}
 use Rattle.dpe_client.proofs.Running.{IsGoing, IsRunning, some_of, running_done, running_at, next_running, running_stops, kept_more, stopped_by}
 
 pub still_below : (a n m : ℕ) → a < n → m ≡ n → a < m
@@ -28,7 +29,7 @@ module _ {L : Type 0} (told : L → Told) (all : List Line) (lines : List code_l
   line = get_or lines at d
 
   pub going_on : ((e : L) → Exchanges (line_of line) Appends (values_of values) (values_of next) (told (get_or now line.link e)) (told (get_or new line.link e)) x1 x2)
-      → ((e : L) → SameCounts (told (get_or now line.link e)) (told (get_or new line.link e)) × (f2 ≡ f1)) → IsReady next → next.names ≡ values.names
+      → ((e : L) → KeepsCounts (told (get_or now line.link e)) (told (get_or new line.link e)) × (f2 ≡ f1)) → IsReady next → next.names ≡ values.names
       → IsGoing told all (lines_are (drop (at + 1) lines)) old new x0 x2 f0 f2 before next
   going_on done counts ready names = record {
     running =

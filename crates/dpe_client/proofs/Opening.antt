@@ -4,7 +4,8 @@ use Rattle.std.specs.Prelude.{All}
 use Rattle.std.proofs.lemmas.List.Elements.{All-append}
 use Rattle.dpe_io.specs.Causes.{Rose}
 use Rattle.dpe_io.specs.Told.{Kind, Opens, OpensNone, Returns, Placed}
-use Rattle.dpe_client.specs.Run.{Told, LinksKept, SomeLinkFailed}
+use Rattle.dpe_io.specs.Told.{Told}
+use Rattle.dpe_client.specs.Run.{LinksKept, SomeLinkFailed}
 use Rattle.dpe_client.specs.Client.{AllOpen, AllReturn, OpensFront, count_of, KindKept, KindFailed}
 
 -- ---- opened
@@ -83,7 +84,7 @@ module _ {L : Type 0} (told : L → Told) where
   -- ---- both
 
   abbrev pub AreFaultless : List L → Type 0
-  AreFaultless xs = (k : ℕ) (d : L) → k < length xs → ((told (get_or xs k d)).reads ≡ 0) × ((told (get_or xs k d)).writes ≡ 0)
+  AreFaultless xs = (k : ℕ) (d : L) → k < length xs → ((told (get_or xs k d)).read_faults ≡ 0) × ((told (get_or xs k d)).write_faults ≡ 0)
 
   -- what was opened without faults and then had none is handed back without faults
   pub visit_kept : (old mid new : Kind L) (opened closed : List L) → AllOpen old opened mid → AllReturn told 0 mid closed new → length closed ≡ length opened → AreFaultless opened

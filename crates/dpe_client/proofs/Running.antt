@@ -12,7 +12,8 @@ use Rattle.dpe_link.specs.Frames.{frame}
 use Rattle.dpe_link.specs.Reading.{IsNoFrame}
 use Rattle.dpe_client.specs.Script.{Line}
 use Rattle.dpe_client.specs.Meaning.{Values, no_values, Answer, IsAnswerTo, asked_of, answer_payload, after, sent_payload, Posted, posted, posts, frames_on, sent, got, said_of, said}
-use Rattle.dpe_client.specs.Run.{Told, AreAnswers, next_line, EachLink, AppendsFront, IsWhole, IsFront, IsRefused, IsNoReply, Exchanges, IsCutOff, IsUnanswered, RunsWhole, StopsAtLink, StopsAtReply, StopsPrinting, Stops, Fails, SameCounts, LinkFailed, LinksKept, SomeLinkFailed, CausedBy, RunCausedBy}
+use Rattle.dpe_io.specs.Told.{Told, KeepsCounts}
+use Rattle.dpe_client.specs.Run.{AreAnswers, next_line, EachLink, AppendsFront, IsWhole, IsFront, IsRefused, IsNoReply, Exchanges, IsCutOff, IsUnanswered, RunsWhole, StopsAtLink, StopsAtReply, StopsPrinting, Stops, Fails, LinkFailed, LinksKept, SomeLinkFailed, CausedBy, RunCausedBy}
 use Rattle.dpe_client.specs.CodeScript.{line_of, lines_are}
 use Rattle.dpe_client.specs.declared.script.Line as code_line
 use Rattle.dpe_client.specs.CodeValues.{values_of, IsReady}
@@ -151,7 +152,7 @@ got_other line answer k e = ap (λ (b : Bool). if b then frame (answer_payload a
 
 -- what passed over a link
 abbrev pub Passed : List Done → ℕ → Told → Told → Type 0
-Passed xs k old new = Appends old.bytes new.bytes (frames_on k (posts_by no_values xs)) × Consumes old.left new.left (got_by xs k)
+Passed xs k old new = Appends old.written new.written (frames_on k (posts_by no_values xs)) × Consumes old.left new.left (got_by xs k)
 
 pub record IsRunning {L : Type 0} (told : L → Told) (lines rest : List Line) (old now : List L) (out_old out_now : Option (List ℕ)) (values : Values) : Type 0 where
   pub done : List Done
@@ -167,7 +168,7 @@ running_start told lines old out values is = record {
   split = refl;
   each = tt;
   values_are = is;
-  links = λ k d lt. (Appends-nil (told (get_or old k d)).bytes, Consumes-nil (told (get_or old k d)).left);
+  links = λ k d lt. (Appends-nil (told (get_or old k d)).written, Consumes-nil (told (get_or old k d)).left);
   printed = Appends-nil out;
 }
 
@@ -192,17 +193,17 @@ module _ (xs : List Done) (line : Line) (k : ℕ) (o m n : Told) (passed : Passe
   other_next : (line.link ≡ k → ⊥) → frames_on k (posted (values_by no_values xs) line ∷ []) ≡ []
   other_next e = frames_none k (posted (values_by no_values xs) line) e
 
-  passed_own : (answer : Answer) → line.link ≡ k → Appends m.bytes n.bytes own → Consumes m.left n.left (frame (answer_payload answer)) → Passed (xs ++ done_of line answer ∷ []) k o n
+  passed_own : (answer : Answer) → line.link ≡ k → Appends m.written n.written own → Consumes m.left n.left (frame (answer_payload answer)) → Passed (xs ++ done_of line answer ∷ []) k o n
   passed_own answer e given taken = (
-    subst (λ (t : List ℕ). Appends o.bytes n.bytes t) (sym (frames_more k xs (done_of line answer) ∙ ap (λ (t : List ℕ). before ++ t) (own_next e)))
-        (Appends-trans o.bytes m.bytes n.bytes before own passed.0 given),
+    subst (λ (t : List ℕ). Appends o.written n.written t) (sym (frames_more k xs (done_of line answer) ∙ ap (λ (t : List ℕ). before ++ t) (own_next e)))
+        (Appends-trans o.written m.written n.written before own passed.0 given),
     subst (λ (t : List ℕ). Consumes o.left n.left t) (sym (got_more xs (done_of line answer) k ∙ ap (λ (t : List ℕ). got_by xs k ++ t) (got_own line answer k e)))
         (Consumes-trans o.left m.left n.left (got_by xs k) (frame (answer_payload answer)) passed.1 taken),
   )
 
   passed_other : (answer : Answer) → (line.link ≡ k → ⊥) → Passed (xs ++ done_of line answer ∷ []) k o m
   passed_other answer e = (
-    subst (λ (t : List ℕ). Appends o.bytes m.bytes t)
+    subst (λ (t : List ℕ). Appends o.written m.written t)
         (sym (frames_more k xs (done_of line answer) ∙ ap (λ (t : List ℕ). before ++ t) (other_next e) ∙ append-nil before)) passed.0,
     subst (λ (t : List ℕ). Consumes o.left m.left t)
         (sym (got_more xs (done_of line answer) k ∙ ap (λ (t : List ℕ). got_by xs k ++ t) (got_other line answer k e) ∙ append-nil (got_by xs k))) passed.1,
@@ -227,34 +228,34 @@ module _ (xs : List Done) (line : Line) (k : ℕ) (o m n : Told) (passed : Passe
     got_nothing : Consumes o.left m.left (got all (answers_in xs) k ++ [])
     got_nothing = got_part [] m.left (subst (λ (t : List ℕ). Consumes o.left m.left t) (sym (append-nil (got_by xs k))) passed.1)
 
-    front_own : line.link ≡ k → AppendsFront m.bytes n.bytes own → ((part : List ℕ) × IsNoFrame part × Consumes m.left n.left part) → IsFront all (answers_in xs) k o n
+    front_own : line.link ≡ k → AppendsFront m.written n.written own → ((part : List ℕ) × IsNoFrame part × Consumes m.left n.left part) → IsFront all (answers_in xs) k o n
     front_own e front (part, none, taken) = (
-      subst (λ (t : List ℕ). AppendsFront o.bytes n.bytes t) (sym (sent_own e)) (then_front o.bytes m.bytes n.bytes before own passed.0 front),
+      subst (λ (t : List ℕ). AppendsFront o.written n.written t) (sym (sent_own e)) (then_front o.written m.written n.written before own passed.0 front),
       (part, none, got_part part n.left (Consumes-trans o.left m.left n.left (got_by xs k) part passed.1 taken)),
     )
 
     front_other : (line.link ≡ k → ⊥) → IsFront all (answers_in xs) k o m
     front_other e = (
-      subst (λ (t : List ℕ). AppendsFront o.bytes m.bytes t) (append-nil before ∙ sym (sent_other e)) (front_more o.bytes m.bytes before [] passed.0),
+      subst (λ (t : List ℕ). AppendsFront o.written m.written t) (append-nil before ∙ sym (sent_other e)) (front_more o.written m.written before [] passed.0),
       ([], inl refl, got_nothing),
     )
 
-    refused_own : line.link ≡ k → Appends m.bytes n.bytes own → ((taken : List ℕ) × IsNoReply line.act n.left taken × Consumes m.left n.left taken) → IsRefused line all (answers_in xs) k o n
+    refused_own : line.link ≡ k → Appends m.written n.written own → ((taken : List ℕ) × IsNoReply line.act n.left taken × Consumes m.left n.left taken) → IsRefused line all (answers_in xs) k o n
     refused_own e given (taken, bad, read) = (
-      subst (λ (t : List ℕ). Appends o.bytes n.bytes t) (sym (sent_own e)) (Appends-trans o.bytes m.bytes n.bytes before own passed.0 given),
+      subst (λ (t : List ℕ). Appends o.written n.written t) (sym (sent_own e)) (Appends-trans o.written m.written n.written before own passed.0 given),
       (taken, inr (e, bad), got_part taken n.left (Consumes-trans o.left m.left n.left (got_by xs k) taken passed.1 read)),
     )
 
     refused_other : (line.link ≡ k → ⊥) → IsRefused line all (answers_in xs) k o m
     refused_other e = (
-      subst (λ (t : List ℕ). Appends o.bytes m.bytes t) (sym (sent_other e)) passed.0,
+      subst (λ (t : List ℕ). Appends o.written m.written t) (sym (sent_other e)) passed.0,
       ([], inl (e, refl), got_nothing),
     )
 
 -- what passed so far is a front of what is sent, whatever follows
 passed_front : (xs : List Done) (rest : List Line) (k : ℕ) (o n : Told) → Passed xs k o n → IsFront (lines_in xs ++ rest) (answers_in xs) k o n
 passed_front xs rest k o n passed = (
-  subst (λ (t : List ℕ). AppendsFront o.bytes n.bytes t) (sym (sent_split k xs rest)) (front_more o.bytes n.bytes (frames_on k (posts_by no_values xs)) (frames_on k (next_post (values_by no_values xs) rest)) passed.0),
+  subst (λ (t : List ℕ). AppendsFront o.written n.written t) (sym (sent_split k xs rest)) (front_more o.written n.written (frames_on k (posts_by no_values xs)) (frames_on k (next_post (values_by no_values xs) rest)) passed.0),
   (
     [],
     inl refl,
@@ -264,7 +265,7 @@ passed_front xs rest k o n passed = (
 
 passed_whole : (xs : List Done) (k : ℕ) (o n : Told) → Passed xs k o n → IsWhole (lines_in xs ++ []) (answers_in xs) k o n
 passed_whole xs k o n passed = (
-  subst (λ (t : List ℕ). Appends o.bytes n.bytes t) (sym (sent_split k xs [] ∙ append-nil (frames_on k (posts_by no_values xs)))) passed.0,
+  subst (λ (t : List ℕ). Appends o.written n.written t) (sym (sent_split k xs [] ∙ append-nil (frames_on k (posts_by no_values xs)))) passed.0,
   subst (λ (t : List ℕ). Consumes o.left n.left t) (sym (got_split xs [] k)) passed.1,
 )
 
@@ -314,11 +315,11 @@ module _ {L : Type 0} (told : L → Told) (lines rest : List Line) (line : Line)
 
   -- the line was answered
   module _ (answer : Answer) (is : IsAnswerTo (asked_of line.act) answer) (after_it : next ≡ after values line.act answer)
-      (given : Appends was.bytes is_now.bytes (frame (sent_payload values line.act))) (taken : Consumes was.left is_now.left (frame (answer_payload answer))) where
+      (given : Appends was.written is_now.written (frame (sent_payload values line.act))) (taken : Consumes was.left is_now.left (frame (answer_payload answer))) where
     links_more : EachLink told (Passed (r.done ++ done_of line answer ∷ [])) old new
     links_more =
         each_other (Passed (r.done ++ done_of line answer ∷ []))
-        (λ o p. passed_own r.done line line.link o was is_now p answer refl (subst (λ (v : Values). Appends was.bytes is_now.bytes (frame (sent_payload v line.act))) r.values_are given) taken)
+        (λ o p. passed_own r.done line line.link o was is_now p answer refl (subst (λ (v : Values). Appends was.written is_now.written (frame (sent_payload v line.act))) r.values_are given) taken)
         (λ k o m e p. passed_other r.done line k o m m p answer e)
 
     split_more : lines ≡ lines_in (r.done ++ done_of line answer ∷ []) ++ rest
@@ -363,7 +364,7 @@ module _ {L : Type 0} (told : L → Told) (lines rest : List Line) (line : Line)
         is = refl;
         links =
             each_other (IsFront (lines_in r.done ++ (line ∷ rest)) (answers_in r.done))
-            (λ o p. front_own r.done line line.link o was is_now p rest refl (subst (λ (v : Values). AppendsFront was.bytes is_now.bytes (frame (sent_payload v line.act))) r.values_are front) read)
+            (λ o p. front_own r.done line line.link o was is_now p rest refl (subst (λ (v : Values). AppendsFront was.written is_now.written (frame (sent_payload v line.act))) r.values_are front) read)
             (λ k o m e p. front_other r.done line k o m m p rest e);
         printed = said_so_far same;
       })
@@ -380,7 +381,7 @@ module _ {L : Type 0} (told : L → Told) (lines rest : List Line) (line : Line)
         within = omega arith;
         links =
             each_other (IsRefused line (lines_in r.done ++ (line ∷ rest)) (answers_in r.done))
-            (λ o p. refused_own r.done line line.link o was is_now p rest refl (subst (λ (v : Values). Appends was.bytes is_now.bytes (frame (sent_payload v line.act))) r.values_are given) read)
+            (λ o p. refused_own r.done line line.link o was is_now p rest refl (subst (λ (v : Values). Appends was.written is_now.written (frame (sent_payload v line.act))) r.values_are given) read)
             (λ k o m e p. refused_other r.done line k o m m p rest e);
         printed = said_so_far same;
       })
@@ -423,16 +424,16 @@ module _ {L : Type 0} (told : L → Told) (lines rest : List Line) (line : Line)
 module _ {L : Type 0} (told : L → Told) (old now new : List L) (link : ℕ) (kept : LinksKept told old now)
     (within : link < length now) (size : length now ≡ length old)
     (others : (k : ℕ) (d : L) → (link ≡ k → ⊥) → get_or new k d ≡ get_or now k d) where
-  pub kept_more : ((d : L) → SameCounts (told (get_or now link d)) (told (get_or new link d))) → LinksKept told old new
+  pub kept_more : ((d : L) → KeepsCounts (told (get_or now link d)) (told (get_or new link d))) → LinksKept told old new
   kept_more same k d lt = elim (ℕ_discrete link k) [ yes e ↦ at_link e | no e ↦ elsewhere e ]
     where
-      at_link : link ≡ k → SameCounts (told (get_or old k d)) (told (get_or new k d))
+      at_link : link ≡ k → KeepsCounts (told (get_or old k d)) (told (get_or new k d))
       at_link e =
-          let s : SameCounts (told (get_or now k d)) (told (get_or new k d)) = subst (λ (i : ℕ). SameCounts (told (get_or now i d)) (told (get_or new i d))) e (same d) in
+          let s : KeepsCounts (told (get_or now k d)) (told (get_or new k d)) = subst (λ (i : ℕ). KeepsCounts (told (get_or now i d)) (told (get_or new i d))) e (same d) in
           (s.0 ∙ (kept k d lt).0, s.1 ∙ (kept k d lt).1)
 
-      elsewhere : (link ≡ k → ⊥) → SameCounts (told (get_or old k d)) (told (get_or new k d))
-      elsewhere e = subst (λ (n : Told). SameCounts (told (get_or old k d)) n) (ap told (sym (others k d e))) (kept k d lt)
+      elsewhere : (link ≡ k → ⊥) → KeepsCounts (told (get_or old k d)) (told (get_or new k d))
+      elsewhere e = subst (λ (n : Told). KeepsCounts (told (get_or old k d)) n) (ap told (sym (others k d e))) (kept k d lt)
 
   failed_since : ((d : L) → LinkFailed (told (get_or now link d)) (told (get_or new link d))) → SomeLinkFailed told old new
   failed_since fails =
@@ -443,8 +444,8 @@ module _ {L : Type 0} (told : L → Told) (old now new : List L) (link : ℕ) (k
         d,
         lt,
         elim (fails d) [
-          | inl reads ↦ inl (subst (λ (n : ℕ). Rose n (told (get_or new link d)).reads) same.0 reads)
-          | inr writes ↦ inr (subst (λ (n : ℕ). Rose n (told (get_or new link d)).writes) same.1 writes)
+          | inl reads ↦ inl (subst (λ (n : ℕ). Rose n (told (get_or new link d)).read_faults) same.0 reads)
+          | inr writes ↦ inr (subst (λ (n : ℕ). Rose n (told (get_or new link d)).write_faults) same.1 writes)
         ],
       )
 

@@ -5,7 +5,7 @@ use Rattle.std.specs.Io.KnownBytes.{Appends}
 use Rattle.dpe_io.specs.Causes.{Rose}
 use Rattle.dpe_io.specs.Told.{Kind}
 use Rattle.dpe_client.specs.Script.{Line, right, bad_line, script_of}
-use Rattle.dpe_client.specs.Run.{Told}
+use Rattle.dpe_io.specs.Told.{Told}
 use Rattle.dpe_client.specs.Client.{ForScript, TellsScript, TellBytes, TellAnswers, IfRight, IfBad, RunsOnLinks, FailsAtLink, FailsAtReply, Unprinted, bad_line_said, KindKept, KindFailed, Unfailed, WordsEnd, WordsCausedBy, IsStatus, status_of, links_in}
 use Rattle.dpe_client.specs.declared.end.End.{End}
 use Rattle.dpe_client.specs.declared.end.End.TheVariants.{Done, NoMemory, NoScript, BadScript, LinkFault, BadReply, OutputFault}

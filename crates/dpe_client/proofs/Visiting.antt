@@ -6,7 +6,8 @@ use Rattle.std.specs.Io.KnownBytes.{Consumes}
 use Rattle.dpe_io.specs.Told.{Kind}
 use Rattle.dpe_client.specs.Script.{Line}
 use Rattle.dpe_client.specs.Meaning.{sent, got, said}
-use Rattle.dpe_client.specs.Run.{Told, AppendsFront, RunsWhole, StopsAtLink, StopsAtReply, StopsPrinting, Stops, HasRunCause, RunCausedBy}
+use Rattle.dpe_io.specs.Told.{Told}
+use Rattle.dpe_client.specs.Run.{AppendsFront, RunsWhole, StopsAtLink, StopsAtReply, StopsPrinting, Stops, HasRunCause, RunCausedBy}
 use Rattle.dpe_client.specs.Client.{AllOpen, AllReturn, OpensFront, OnLinks, KindFailed, LinesEnd, LinesStop, HasLinesCause, LinesCausedBy, RunsOnLinks, FailsPrinting, in_answers}
 use Rattle.dpe_client.specs.declared.run.Cause.{Cause}
 use Rattle.dpe_client.specs.declared.run.Cause.TheVariants.{Link, Reply, Output}
@@ -82,8 +83,8 @@ whole_unsent told lines opened closed x0 x1 x2 w front = record {
   answers = w.answers;
   each = w.each;
   links = λ k d lt. (
-    subst (λ (t : List ℕ). AppendsFront (told (get_or opened k d)).bytes (told (get_or closed k d)).bytes t) (append-nil (sent lines w.answers k))
-        (front_more (told (get_or opened k d)).bytes (told (get_or closed k d)).bytes (sent lines w.answers k) [] (w.links k d lt).0),
+    subst (λ (t : List ℕ). AppendsFront (told (get_or opened k d)).written (told (get_or closed k d)).written t) (append-nil (sent lines w.answers k))
+        (front_more (told (get_or opened k d)).written (told (get_or closed k d)).written (sent lines w.answers k) [] (w.links k d lt).0),
     ([], inl refl, subst (λ (t : List ℕ). Consumes (told (get_or opened k d)).left (told (get_or closed k d)).left t) (sym (append-nil (got lines w.answers k))) (w.links k d lt).1),
   );
   printed = subst (λ (t : List ℕ). AppendsFront x0 x2 t) (append-nil (said lines w.answers)) (then_front x0 x1 x2 (said lines w.answers) [] w.printed front);

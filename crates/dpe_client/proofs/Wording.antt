@@ -9,7 +9,7 @@ use Rattle.dpe_io.specs.Told.{Kind}
 use Rattle.dpe_client.specs.Values.{texts}
 use Rattle.dpe_client.specs.Names.{no_names}
 use Rattle.dpe_client.specs.Script.{Line, Script, right, bad_line, max_script, script_of, script_from, lines_of}
-use Rattle.dpe_client.specs.Run.{Told}
+use Rattle.dpe_io.specs.Told.{Told}
 use Rattle.dpe_client.specs.Client.{Loads, TellsScript, TellAnswers, ForScript, IfRight, IfBad, KindKept, Ends, WordsEnd, EndCausedBy, WordsCausedBy, links_in}
 use Rattle.dpe_client.specs.declared.end.End.{End}
 use Rattle.dpe_client.specs.declared.end.End.TheVariants.{Done, NoMemory, NoScript, BadScript, LinkFault, BadReply, OutputFault}

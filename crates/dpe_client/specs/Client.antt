@@ -7,7 +7,8 @@ use Rattle.dpe_io.specs.Causes.{Rose}
 use Rattle.dpe_io.specs.Told.{Kind, Opens, OpensNone, Returns, Placed}
 use Rattle.dpe_client.specs.Script.{Line, Script, right, bad_line, script_of, max_script}
 use Rattle.dpe_client.specs.Meaning.{Answer, got}
-use Rattle.dpe_client.specs.Run.{Told, told_at, AppendsFront, AreAnswers, RunsWhole, StopsAtLink, StopsAtReply, StopsPrinting}
+use Rattle.dpe_io.specs.Told.{Told}
+use Rattle.dpe_client.specs.Run.{told_at, AppendsFront, AreAnswers, RunsWhole, StopsAtLink, StopsAtReply, StopsPrinting}
 use Rattle.dpe_client.specs.declared.run.Cause.TheVariants.{Link, Reply, Output}
 use Rattle.dpe_client.specs.declared.run.LineFault.{LineFault}
 use Rattle.dpe_client.specs.declared.run.Cause.{Cause}
@@ -91,7 +92,7 @@ AllOpen {T} old (x ∷ xs) new = (mid : Kind T) × Opens old x mid × AllOpen mi
 
 -- the count of a link: of failed reads and failed writes together
 abbrev pub count_of : Told → ℕ
-count_of told = told.reads + told.writes
+count_of told = told.read_faults + told.write_faults
 
 -- these links were handed back, one after the other, from this place on
 abbrev pub AllReturn : {L : Type 0} → (L → Told) → ℕ → Kind L → List L → Kind L → Type 0

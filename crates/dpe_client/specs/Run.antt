@@ -4,6 +4,7 @@ use Rattle.std.specs.Io.KnownBytes.{Consumes, Appends, IsAtEnd}
 use Rattle.dpe_link.specs.Frames.{frame, told_length}
 use Rattle.dpe_link.specs.Reading.{IsNoFrame}
 use Rattle.dpe_io.specs.Causes.{Rose}
+use Rattle.dpe_io.specs.Told.{Told, KeepsCounts}
 pub use Rattle.dpe_text.specs.Writing.{AppendsFront}
 use Rattle.dpe_client.specs.Acts.{Act}
 use Rattle.dpe_client.specs.Script.{Line}
@@ -13,22 +14,9 @@ use Rattle.dpe_client.specs.declared.run.Cause.{Cause}
 use Rattle.dpe_client.specs.declared.run.LineFault.{LineFault}
 use Rattle.dpe_client.specs.declared.run.Cause.TheVariants.{Link, Reply, Output}
 
--- What a link has left and what it got, where it tells them, and its counts of failed reads and of failed writes.
-pub record Told : Type 0 where
-  pub left : Option (List ℕ)
-  pub bytes : Option (List ℕ)
-  pub reads : ℕ
-  pub writes : ℕ
-
-abbrev pub told_by : {L : Type 0} → (L → Option (List ℕ)) → (L → Option (List ℕ)) → (L → ℕ) → (L → ℕ) → L → Told
-told_by left bytes reads writes x = record { left = left x; bytes = bytes x; reads = reads x; writes = writes x }
-
-abbrev pub SameCounts : Told → Told → Type 0
-SameCounts old new = (new.reads ≡ old.reads) × (new.writes ≡ old.writes)
-
 -- a read or a write of the link failed
 abbrev pub LinkFailed : Told → Told → Type 0
-LinkFailed old new = Rose old.reads new.reads ⊎ Rose old.writes new.writes
+LinkFailed old new = Rose old.read_faults new.read_faults ⊎ Rose old.write_faults new.write_faults
 
 -- Why what came for a command is no reply: the link ended before or within a frame, or told a frame that is too long, or
 -- gave a whole one whose payload is no answer. These bytes were taken.
@@ -45,20 +33,20 @@ module _ (line : Line) (P : Option (List ℕ) → Option (List ℕ) → List ℕ
     pub answer : Answer
     pub is : IsAnswerTo (asked_of line.act) answer
     pub values : now ≡ after before line.act answer
-    pub sent : Appends old.bytes new.bytes (frame (sent_payload before line.act))
+    pub sent : Appends old.written new.written (frame (sent_payload before line.act))
     pub taken : Consumes old.left new.left (frame (answer_payload answer))
     pub printed : P out_old out_new (said_of line answer)
 
 -- a front of the command was sent, and less than a frame was taken
 abbrev pub IsCutOff : Act → Values → Told → Told → Type 0
 IsCutOff act before old new =
-    AppendsFront old.bytes new.bytes (frame (sent_payload before act))
+    AppendsFront old.written new.written (frame (sent_payload before act))
     × ((part : List ℕ) × IsNoFrame part × Consumes old.left new.left part)
 
 -- the command was sent, and what was taken is no reply
 abbrev pub IsUnanswered : Act → Values → Told → Told → Type 0
 IsUnanswered act before old new =
-    Appends old.bytes new.bytes (frame (sent_payload before act))
+    Appends old.written new.written (frame (sent_payload before act))
     × ((taken : List ℕ) × IsNoReply act new.left taken × Consumes old.left new.left taken)
 
 -- how a line ends that isn't answered and printed
@@ -70,12 +58,12 @@ Fails Output line before now old new out_old out_new = Exchanges line AppendsFro
 -- the counts that rose: of the link, or of the output
 abbrev pub CausedBy : Cause → Told → Told → ℕ → ℕ → Type 0
 CausedBy Link old new out_old out_new = LinkFailed old new × (out_new ≡ out_old)
-CausedBy Reply old new out_old out_new = SameCounts old new × (out_new ≡ out_old)
-CausedBy Output old new out_old out_new = SameCounts old new × Rose out_old out_new
+CausedBy Reply old new out_old out_new = KeepsCounts old new × (out_new ≡ out_old)
+CausedBy Output old new out_old out_new = KeepsCounts old new × Rose out_old out_new
 
 abbrev pub HasLineCause : {T : Type 0} → Result T Cause → Told → Told → ℕ → ℕ → Type 0
 HasLineCause result old new out_old out_new =
-    MatchResult result (λ _. SameCounts old new × (out_new ≡ out_old)) (λ cause. CausedBy cause old new out_old out_new)
+    MatchResult result (λ _. KeepsCounts old new × (out_new ≡ out_old)) (λ cause. CausedBy cause old new out_old out_new)
 
 -- ## The parts of a line
 
@@ -88,10 +76,10 @@ HasNoFrame act Output old new = ⊥
 -- how an exchange ends without a payload
 abbrev pub NotExchanged : Act → List ℕ → Cause → Told → Told → Type 0
 NotExchanged act payload Link old new =
-    AppendsFront old.bytes new.bytes (frame payload)
+    AppendsFront old.written new.written (frame payload)
     × ((part : List ℕ) × IsNoFrame part × Consumes old.left new.left part)
 NotExchanged act payload Reply old new =
-    Appends old.bytes new.bytes (frame payload)
+    Appends old.written new.written (frame payload)
     × ((taken : List ℕ) × IsNoReply act new.left taken × Consumes old.left new.left taken)
 NotExchanged act payload Output old new = ⊥
 
@@ -142,18 +130,18 @@ EachLink {L} told P old new = (k : ℕ) (d : L) → k < length old → P k (told
 -- all was sent, and just the answers were taken
 abbrev pub IsWhole : List Line → List Answer → ℕ → Told → Told → Type 0
 IsWhole lines answers link old new =
-    Appends old.bytes new.bytes (sent lines answers link) × Consumes old.left new.left (got lines answers link)
+    Appends old.written new.written (sent lines answers link) × Consumes old.left new.left (got lines answers link)
 
 -- a front was sent, and behind the answers less than a frame was taken
 abbrev pub IsFront : List Line → List Answer → ℕ → Told → Told → Type 0
 IsFront lines answers link old new =
-    AppendsFront old.bytes new.bytes (sent lines answers link)
+    AppendsFront old.written new.written (sent lines answers link)
     × ((part : List ℕ) × IsNoFrame part × Consumes old.left new.left (got lines answers link ++ part))
 
 -- all was sent, and behind the answers nothing was taken, or on the link of the line what is no reply to it
 abbrev pub IsRefused : Line → List Line → List Answer → ℕ → Told → Told → Type 0
 IsRefused line lines answers link old new =
-    Appends old.bytes new.bytes (sent lines answers link)
+    Appends old.written new.written (sent lines answers link)
     × ((taken : List ℕ)
     × (((line.link ≡ link → ⊥) × (taken ≡ [])) ⊎ ((line.link ≡ link) × IsNoReply line.act new.left taken))
     × Consumes old.left new.left (got lines answers link ++ taken))
@@ -202,7 +190,7 @@ module _ {L : Type 0} (told : L → Told) (lines : List Line) (old new : List L)
 
 -- the counts of the links stand as they were
 abbrev pub LinksKept : {L : Type 0} → (L → Told) → List L → List L → Type 0
-LinksKept told old new = EachLink told (λ k before now. SameCounts before now) old new
+LinksKept told old new = EachLink told (λ k before now. KeepsCounts before now) old new
 
 -- some link failed
 abbrev pub SomeLinkFailed : {L : Type 0} → (L → Told) → List L → List L → Type 0

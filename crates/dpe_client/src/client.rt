@@ -9,7 +9,6 @@ ghost use Rattle.dpe_client.specs.CodeNames.{names_of};
 ghost use Rattle.dpe_client.specs.CodeScript.{AreBelow, AreKnown, IsLineInRange, IsLineKnown, lines_are};
 ghost use Rattle.dpe_client.specs.CodeValues.{IsReady, values_of};
 ghost use Rattle.dpe_client.specs.Meaning.{no_values};
-ghost use Rattle.dpe_client.specs.Run.{told_by};
 ghost use Rattle.dpe_client.specs.Script.{Line as ScriptLine, right, bad_line, max_script, script_of};
 ghost use Rattle.dpe_client.specs.Values.{texts};
 
@@ -114,13 +113,13 @@ fn run_lines<D: Dock, O: Sink>(
     requires range { All IsLineInRange lines.now }
     requires link { All (λ l. l.link < length paths.now) lines.now }
     requires fresh { values_of values.old ≡ no_values }
-    ensures ends { Ends result (told_by D.Link.Source.left D.Link.Sink.bytes D.Link.Source.faults D.Link.Sink.faults) (length paths.now)
-        (right (lines_are lines.now)) (D.links dock.old) (D.links dock.new) (O.bytes out.old) (O.bytes out.new) }
+    ensures ends { Ends result D.Link.told (length paths.now) (right (lines_are lines.now)) (D.links dock.old)
+        (D.links dock.new) (O.bytes out.old) (O.bytes out.new) }
     ensures cause { EndCausedBy result (D.links dock.old) (D.links dock.new) (O.faults out.old) (O.faults out.new) }
     ensures back { (D.links dock.new).out ≡ (D.links dock.old).out }
     ensures scripts { D.scripts dock.new ≡ D.scripts dock.old }
-    ensures answered { TellAnswers (told_by D.Link.Source.left D.Link.Sink.bytes D.Link.Source.faults D.Link.Sink.faults) (D.links dock.old)
-        (length paths.now) (lines_are lines.now) → result ≢ End.BadReply }
+    ensures answered { TellAnswers D.Link.told (D.links dock.old) (length paths.now) (lines_are lines.now) → result ≢
+        End.BadReply }
 {
     let fault = match run_on_links(dock, paths, links, lines, values, out) {
         Ok(()) => {
@@ -156,13 +155,13 @@ fn run_script<D: Dock, O: Sink>(
     requires range { All IsLineInRange script.lines.items }
     requires link { AreBelow (length paths.now) script }
     requires known { AreKnown script }
-    ensures ends { Ends result (told_by D.Link.Source.left D.Link.Sink.bytes D.Link.Source.faults D.Link.Sink.faults) (length paths.now)
-        (right (lines_are script.entry.lines.items)) (D.links dock.old) (D.links dock.new) (O.bytes out.old) (O.bytes out.new) }
+    ensures ends { Ends result D.Link.told (length paths.now) (right (lines_are script.entry.lines.items))
+        (D.links dock.old) (D.links dock.new) (O.bytes out.old) (O.bytes out.new) }
     ensures cause { EndCausedBy result (D.links dock.old) (D.links dock.new) (O.faults out.old) (O.faults out.new) }
     ensures back { (D.links dock.new).out ≡ (D.links dock.old).out }
     ensures scripts { D.scripts dock.new ≡ D.scripts dock.old }
-    ensures answered { TellAnswers (told_by D.Link.Source.left D.Link.Sink.bytes D.Link.Source.faults D.Link.Sink.faults) (D.links dock.old)
-        (length paths.now) (lines_are script.entry.lines.items) → result ≢ End.BadReply }
+    ensures answered { TellAnswers D.Link.told (D.links dock.old) (length paths.now)
+        (lines_are script.entry.lines.items) → result ≢ End.BadReply }
 {
     let Script { lines, names } = script;
     let Ok(mut values) = Values::new(alloc, names) else {
@@ -183,14 +182,13 @@ fn run_text<D: Dock, O: Sink>(
     out: &mut O,
 ) -> End
     requires few { length paths.now ≤ 8 }
-    ensures ends { Ends result (told_by D.Link.Source.left D.Link.Sink.bytes D.Link.Source.faults D.Link.Sink.faults) (length paths.now)
-        (script_of (length paths.now) text.now) (D.links dock.old) (D.links dock.new) (O.bytes out.old) (O.bytes out.new) }
+    ensures ends { Ends result D.Link.told (length paths.now) (script_of (length paths.now) text.now) (D.links dock.old)
+        (D.links dock.new) (O.bytes out.old) (O.bytes out.new) }
     ensures cause { EndCausedBy result (D.links dock.old) (D.links dock.new) (O.faults out.old) (O.faults out.new) }
     ensures back { (D.links dock.new).out ≡ (D.links dock.old).out }
     ensures scripts { D.scripts dock.new ≡ D.scripts dock.old }
-    ensures answered { (lines : List ScriptLine) → script_of (length paths.now) text.now ≡ right lines
-        → TellAnswers (told_by D.Link.Source.left D.Link.Sink.bytes D.Link.Source.faults D.Link.Sink.faults) (D.links dock.old)
-        (length paths.now) lines → result ≢ End.BadReply }
+    ensures answered { (lines : List ScriptLine) → script_of (length paths.now) text.now ≡ right lines → TellAnswers
+        D.Link.told (D.links dock.old) (length paths.now) lines → result ≢ End.BadReply }
 {
     match read_script(alloc, text, paths.len() as u8) {
         Ok(script) => run_script(alloc, dock, paths, script, out),
@@ -212,15 +210,14 @@ fn run_words<D: Dock, O: Sink>(
 ) -> End
     requires right { are_words_right (texts words.now) ≡ true }
     requires room { length room.old ≡ max_script + 1 }
-    ensures ends { WordsEnd result D.File.left D.File.faults (told_by D.Link.Source.left D.Link.Sink.bytes D.Link.Source.faults D.Link.Sink.faults)
-        (texts words.now) (D.scripts dock.old) (D.scripts dock.new) (D.links dock.old) (D.links dock.new) (O.bytes out.old) (O.bytes out.new) }
+    ensures ends { WordsEnd result D.File.left D.File.faults D.Link.told (texts words.now) (D.scripts dock.old)
+        (D.scripts dock.new) (D.links dock.old) (D.links dock.new) (O.bytes out.old) (O.bytes out.new) }
     ensures cause { WordsCausedBy result (D.scripts dock.old) (D.scripts dock.new) (D.links dock.old) (D.links dock.new)
         (O.faults out.old) (O.faults out.new) }
     ensures links_back { (D.links dock.new).out ≡ (D.links dock.old).out }
     ensures script_back { (D.scripts dock.new).out ≡ (D.scripts dock.old).out }
-    ensures answered { (bytes : List ℕ) (lines : List ScriptLine) → TellsScript D.File.left (D.scripts dock.old) bytes
-        → script_of (links_in (texts words.now)) bytes ≡ right lines
-        → TellAnswers (told_by D.Link.Source.left D.Link.Sink.bytes D.Link.Source.faults D.Link.Sink.faults) (D.links dock.old)
+    ensures answered { (bytes : List ℕ) (lines : List ScriptLine) → TellsScript D.File.left (D.scripts dock.old) bytes →
+        script_of (links_in (texts words.now)) bytes ≡ right lines → TellAnswers D.Link.told (D.links dock.old)
         (links_in (texts words.now)) lines → result ≢ End.BadReply }
 {
     match load(dock, words[0], room) {
@@ -251,9 +248,9 @@ pub fn client_main<D: Dock, O: Sink>(alloc: Global, words: &[&str], dock: &mut D
     ensures statuses { IsStatus result }
 
     // 0: each command line was sent and answered, and all was printed.
-    ensures done { result ≡ 0 → ForLines D.File.left D.File.faults (texts words.now) (D.scripts dock.old) (D.scripts dock.new)
-        (λ count lines. RunsOnLinks (told_by D.Link.Source.left D.Link.Sink.bytes D.Link.Source.faults D.Link.Sink.faults)
-        count lines (D.links dock.old) (D.links dock.new) (O.bytes out.old) (O.bytes out.new)) }
+    ensures done { result ≡ 0 → ForLines D.File.left D.File.faults (texts words.now) (D.scripts dock.old)
+        (D.scripts dock.new) (λ count lines. RunsOnLinks D.Link.told count lines (D.links dock.old) (D.links dock.new)
+        (O.bytes out.old) (O.bytes out.new)) }
 
     // 2: exactly where the words aren't of the form. Nothing is opened or printed.
     ensures words { (result ≡ 2) ↔ (are_words_right (texts words.now) ≡ false) }
@@ -269,17 +266,17 @@ pub fn client_main<D: Dock, O: Sink>(alloc: Global, words: &[&str], dock: &mut D
     ensures bad_unopened { result ≡ 13 → D.links dock.new ≡ D.links dock.old }
 
     // 14: a link couldn't be opened, or failed; and 15: what came for a line is no reply. The text on that is printed.
-    ensures link { result ≡ 14 → ForLines D.File.left D.File.faults (texts words.now) (D.scripts dock.old) (D.scripts dock.new)
-        (λ count lines. FailsAtLink Appends (told_by D.Link.Source.left D.Link.Sink.bytes D.Link.Source.faults D.Link.Sink.faults)
-        count lines (D.links dock.old) (D.links dock.new) (O.bytes out.old) (O.bytes out.new)) }
-    ensures reply { result ≡ 15 → ForLines D.File.left D.File.faults (texts words.now) (D.scripts dock.old) (D.scripts dock.new)
-        (λ count lines. FailsAtReply Appends (told_by D.Link.Source.left D.Link.Sink.bytes D.Link.Source.faults D.Link.Sink.faults)
-        count lines (D.links dock.old) (D.links dock.new) (O.bytes out.old) (O.bytes out.new)) }
+    ensures link { result ≡ 14 → ForLines D.File.left D.File.faults (texts words.now) (D.scripts dock.old)
+        (D.scripts dock.new) (λ count lines. FailsAtLink Appends D.Link.told count lines (D.links dock.old)
+        (D.links dock.new) (O.bytes out.old) (O.bytes out.new)) }
+    ensures reply { result ≡ 15 → ForLines D.File.left D.File.faults (texts words.now) (D.scripts dock.old)
+        (D.scripts dock.new) (λ count lines. FailsAtReply Appends D.Link.told count lines (D.links dock.old)
+        (D.links dock.new) (O.bytes out.old) (O.bytes out.new)) }
 
     // 7: the output failed, within the text of the answers or within that on a fault.
-    ensures unprinted { result ≡ 7 → ForScript D.File.left D.File.faults (texts words.now) (D.scripts dock.old) (D.scripts dock.new)
-        (λ count script. Unprinted (told_by D.Link.Source.left D.Link.Sink.bytes D.Link.Source.faults D.Link.Sink.faults) count script
-        (D.links dock.old) (D.links dock.new) (O.bytes out.old) (O.bytes out.new)) }
+    ensures unprinted { result ≡ 7 → ForScript D.File.left D.File.faults (texts words.now) (D.scripts dock.old)
+        (D.scripts dock.new) (λ count script. Unprinted D.Link.told count script (D.links dock.old) (D.links dock.new)
+        (O.bytes out.old) (O.bytes out.new)) }
 
     // The counts that rise: of the script at 4, of the links at 14, of the output at 7. The others stay as they were, but that 7
     // may stand in the place of 14.
@@ -300,20 +297,17 @@ pub fn client_main<D: Dock, O: Sink>(alloc: Global, words: &[&str], dock: &mut D
         → TellsScript D.File.left (D.scripts dock.old) bytes → script_of (links_in (texts words.now)) bytes ≡ bad_line number
         → Unfailed (D.scripts dock.old) (D.scripts dock.new) → (Rose (O.faults out.old) (O.faults out.new) → ⊥)
         → (result ≡ 13) ⊎ (result ≡ 3) }
-    ensures complete { (bytes : List ℕ) (lines : List ScriptLine) → are_words_right (texts words.now) ≡ true
-        → TellsScript D.File.left (D.scripts dock.old) bytes → script_of (links_in (texts words.now)) bytes ≡ right lines
-        → TellAnswers (told_by D.Link.Source.left D.Link.Sink.bytes D.Link.Source.faults D.Link.Sink.faults) (D.links dock.old)
-        (links_in (texts words.now)) lines
-        → Unfailed (D.scripts dock.old) (D.scripts dock.new) → Unfailed (D.links dock.old) (D.links dock.new)
-        → (Rose (O.faults out.old) (O.faults out.new) → ⊥) → (result ≡ 0) ⊎ (result ≡ 3) }
-    ensures unanswered { (bytes : List ℕ) (lines : List ScriptLine) → are_words_right (texts words.now) ≡ true
-        → TellsScript D.File.left (D.scripts dock.old) bytes → script_of (links_in (texts words.now)) bytes ≡ right lines
-        → TellBytes (told_by D.Link.Source.left D.Link.Sink.bytes D.Link.Source.faults D.Link.Sink.faults) (D.links dock.old)
-        (links_in (texts words.now))
-        → (TellAnswers (told_by D.Link.Source.left D.Link.Sink.bytes D.Link.Source.faults D.Link.Sink.faults) (D.links dock.old)
-        (links_in (texts words.now)) lines → ⊥)
-        → Unfailed (D.scripts dock.old) (D.scripts dock.new) → Unfailed (D.links dock.old) (D.links dock.new)
-        → (Rose (O.faults out.old) (O.faults out.new) → ⊥) → (result ≡ 15) ⊎ (result ≡ 3) }
+    ensures complete { (bytes : List ℕ) (lines : List ScriptLine) → are_words_right (texts words.now) ≡ true →
+        TellsScript D.File.left (D.scripts dock.old) bytes → script_of (links_in (texts words.now)) bytes ≡ right lines
+        → TellAnswers D.Link.told (D.links dock.old) (links_in (texts words.now)) lines → Unfailed (D.scripts dock.old)
+        (D.scripts dock.new) → Unfailed (D.links dock.old) (D.links dock.new) →
+        (Rose (O.faults out.old) (O.faults out.new) → ⊥) → (result ≡ 0) ⊎ (result ≡ 3) }
+    ensures unanswered { (bytes : List ℕ) (lines : List ScriptLine) → are_words_right (texts words.now) ≡ true →
+        TellsScript D.File.left (D.scripts dock.old) bytes → script_of (links_in (texts words.now)) bytes ≡ right lines
+        → TellBytes D.Link.told (D.links dock.old) (links_in (texts words.now)) →
+        (TellAnswers D.Link.told (D.links dock.old) (links_in (texts words.now)) lines → ⊥) → Unfailed
+        (D.scripts dock.old) (D.scripts dock.new) → Unfailed (D.links dock.old) (D.links dock.new) →
+        (Rose (O.faults out.old) (O.faults out.new) → ⊥) → (result ≡ 15) ⊎ (result ≡ 3) }
 {
     if !are_right(words) {
         return 2;

@@ -6,7 +6,6 @@ ghost use Rattle.dpe_client.specs.CodeNames.{names_of};
 ghost use Rattle.dpe_client.specs.CodeScript.{IsLineInRange, IsLineKnown, lines_are};
 ghost use Rattle.dpe_client.specs.CodeValues.{IsReady, values_of};
 ghost use Rattle.dpe_client.specs.Meaning.{no_values};
-ghost use Rattle.dpe_client.specs.Run.{told_by};
 
 use crate::run::{Cause, LineFault, run};
 use crate::script::Line;
@@ -20,7 +19,7 @@ fn open_links<D: Dock>(dock: &mut D, paths: &[&str], links: &mut Vec<D::Link>) -
     ensures opened { OnOk result (AllOpen (D.links dock.old) links.new.items (D.links dock.new)) }
     ensures all { OnOk result (length links.new.items ≡ length paths.now) }
     ensures fewer { OnErr result (OpensFront (length paths.now) (D.links dock.old) links.new.items (D.links dock.new)) }
-    ensures faultless { All (λ link. (D.Link.Source.faults link ≡ 0) × (D.Link.Sink.faults link ≡ 0)) links.new.items }
+    ensures faultless { All (λ link. ((D.Link.told link).read_faults ≡ 0) × ((D.Link.told link).write_faults ≡ 0)) links.new.items }
     ensures scripts { D.scripts dock.new ≡ D.scripts dock.old }
 {
     for path in paths {
@@ -36,8 +35,7 @@ fn open_links<D: Dock>(dock: &mut D, paths: &[&str], links: &mut Vec<D::Link>) -
 fn take_links<D: Dock>(dock: &mut D, links: Vec<D::Link>)
     requires out { length links.items ≤ (D.links dock.old).out }
     requires few { length links.items ≤ 8 }
-    ensures returned { AllReturn (told_by D.Link.Source.left D.Link.Sink.bytes D.Link.Source.faults D.Link.Sink.faults)
-        0 (D.links dock.old) links.items (D.links dock.new) }
+    ensures returned { AllReturn D.Link.told 0 (D.links dock.old) links.items (D.links dock.new) }
     ensures scripts { D.scripts dock.new ≡ D.scripts dock.old }
 {
     let mut links = links.into_iter();
@@ -66,8 +64,8 @@ pub fn run_on_links<D: Dock, O: Sink>(
     requires range { All IsLineInRange lines.now }
     requires link { All (λ l. l.link < length paths.now) lines.now }
     requires fresh { values_of values.old ≡ no_values }
-    ensures ends { LinesEnd (told_by D.Link.Source.left D.Link.Sink.bytes D.Link.Source.faults D.Link.Sink.faults) (length paths.now)
-        (lines_are lines.now) (D.links dock.old) (D.links dock.new) (O.bytes out.old) (O.bytes out.new) result }
+    ensures ends { LinesEnd D.Link.told (length paths.now) (lines_are lines.now) (D.links dock.old) (D.links dock.new)
+        (O.bytes out.old) (O.bytes out.new) result }
     ensures cause { HasLinesCause result (D.links dock.old) (D.links dock.new) (O.faults out.old) (O.faults out.new) }
     ensures back { (D.links dock.new).out ≡ (D.links dock.old).out }
     ensures scripts { D.scripts dock.new ≡ D.scripts dock.old }

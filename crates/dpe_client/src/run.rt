@@ -8,7 +8,7 @@ ghost use Rattle.dpe_client.specs.Meaning.{no_values};
 ghost use Rattle.dpe_client.specs.CodeNames.{names_of};
 ghost use Rattle.dpe_client.specs.CodeScript.{line_of, lines_are, IsLineKnown, IsLineInRange};
 ghost use Rattle.dpe_client.specs.CodeValues.{values_of, IsReady};
-ghost use Rattle.dpe_client.specs.Run.{AppendsFront, told_at, told_by, SameCounts, HasNoFrame, NotExchanged, Concludes, NotConcluded, HasOutputCause, Exchanges, Fails, HasLineCause, RunsWhole, Stops, HasRunCause};
+ghost use Rattle.dpe_client.specs.Run.{AppendsFront, told_at, HasNoFrame, NotExchanged, Concludes, NotConcluded, HasOutputCause, Exchanges, Fails, HasLineCause, RunsWhole, Stops, HasRunCause};
 
 use crate::answer::take_answer;
 use crate::command::write_act;
@@ -39,11 +39,11 @@ pub struct LineFault {
 // Sends the frame of a payload.
 fn send<L: Duplex>(link: &mut L, payload: &[u8]) -> Result<(), Failed>
     requires { length payload.now ≤ 4096 }
-    ensures ok { OnOk result (Appends (L.Sink.bytes link.old) (L.Sink.bytes link.new) (frame payload.now)) }
-    ensures front { OnErr result (AppendsFront (L.Sink.bytes link.old) (L.Sink.bytes link.new) (frame payload.now)) }
-    ensures cause { HasCause (L.Sink.faults link.old) (L.Sink.faults link.new) result }
-    ensures left { L.Source.left link.new ≡ L.Source.left link.old }
-    ensures reads { L.Source.faults link.new ≡ L.Source.faults link.old }
+    ensures ok { OnOk result (Appends (L.told link.old).written (L.told link.new).written (frame payload.now)) }
+    ensures front { OnErr result (AppendsFront (L.told link.old).written (L.told link.new).written (frame payload.now)) }
+    ensures cause { HasCause (L.told link.old).write_faults (L.told link.new).write_faults result }
+    ensures left { (L.told link.new).left ≡ (L.told link.old).left }
+    ensures reads { (L.told link.new).read_faults ≡ (L.told link.old).read_faults }
 {
     match write_frame(link, payload) {
         Ok(()) => Ok(()),
@@ -54,14 +54,10 @@ fn send<L: Duplex>(link: &mut L, payload: &[u8]) -> Result<(), Failed>
 // Reads the frame that comes back, and says how many bytes its payload has.
 fn receive<L: Duplex>(link: &mut L, room: &mut [u8; 4096]) -> Result<usize, Cause>
     ensures few { IfOk result (λ count. count ≤ 4096) }
-    ensures taken { IfOk result (λ count. Consumes (L.Source.left link.old) (L.Source.left link.new) (frame (take count room.new))) }
-    ensures fault { IfErr result (λ cause. (act : Act) → HasNoFrame act cause
-        (told_by L.Source.left L.Sink.bytes L.Source.faults L.Sink.faults link.old)
-        (told_by L.Source.left L.Sink.bytes L.Source.faults L.Sink.faults link.new)) }
-    ensures cause { HasLineCause result
-        (told_by L.Source.left L.Sink.bytes L.Source.faults L.Sink.faults link.old)
-        (told_by L.Source.left L.Sink.bytes L.Source.faults L.Sink.faults link.new) 0 0 }
-    ensures bytes { L.Sink.bytes link.new ≡ L.Sink.bytes link.old }
+    ensures taken { IfOk result (λ count. Consumes (L.told link.old).left (L.told link.new).left (frame (take count room.new))) }
+    ensures fault { IfErr result (λ cause. (act : Act) → HasNoFrame act cause (L.told link.old) (L.told link.new)) }
+    ensures cause { HasLineCause result (L.told link.old) (L.told link.new) 0 0 }
+    ensures bytes { (L.told link.new).written ≡ (L.told link.old).written }
 {
     match read_frame(link, room) {
         Ok(Some(len)) => Ok(len),
@@ -76,14 +72,11 @@ fn receive<L: Duplex>(link: &mut L, room: &mut [u8; 4096]) -> Result<usize, Caus
 fn exchange<L: Duplex>(link: &mut L, room: &mut [u8; 4096], len: usize) -> Result<usize, Cause>
     requires { len ≤ 4096 }
     ensures few { IfOk result (λ count. count ≤ 4096) }
-    ensures sent { OnOk result (Appends (L.Sink.bytes link.old) (L.Sink.bytes link.new) (frame (take len room.old))) }
-    ensures taken { IfOk result (λ count. Consumes (L.Source.left link.old) (L.Source.left link.new) (frame (take count room.new))) }
-    ensures fault { IfErr result (λ cause. (act : Act) → NotExchanged act (take len room.old) cause
-        (told_by L.Source.left L.Sink.bytes L.Source.faults L.Sink.faults link.old)
-        (told_by L.Source.left L.Sink.bytes L.Source.faults L.Sink.faults link.new)) }
-    ensures cause { HasLineCause result
-        (told_by L.Source.left L.Sink.bytes L.Source.faults L.Sink.faults link.old)
-        (told_by L.Source.left L.Sink.bytes L.Source.faults L.Sink.faults link.new) 0 0 }
+    ensures sent { OnOk result (Appends (L.told link.old).written (L.told link.new).written (frame (take len room.old))) }
+    ensures taken { IfOk result (λ count. Consumes (L.told link.old).left (L.told link.new).left (frame (take count room.new))) }
+    ensures fault { IfErr result (λ cause. (act : Act) → NotExchanged act (take len room.old) cause (L.told link.old)
+        (L.told link.new)) }
+    ensures cause { HasLineCause result (L.told link.old) (L.told link.new) 0 0 }
 {
     match send(link, &room[..len]) {
         Ok(()) => receive(link, room),
@@ -129,14 +122,10 @@ fn ask<L: Duplex, O: Sink>(
     requires known { IsLineKnown (names_of values.old.names) line.now }
     requires range { IsLineInRange line.now }
     ensures ok { OnOk result (Exchanges (line_of line.now) Appends (values_of values.old) (values_of values.new)
-        (told_by L.Source.left L.Sink.bytes L.Source.faults L.Sink.faults link.old)
-        (told_by L.Source.left L.Sink.bytes L.Source.faults L.Sink.faults link.new) (O.bytes out.old) (O.bytes out.new)) }
+        (L.told link.old) (L.told link.new) (O.bytes out.old) (O.bytes out.new)) }
     ensures fault { IfErr result (λ cause. Fails cause (line_of line.now) (values_of values.old) (values_of values.new)
-        (told_by L.Source.left L.Sink.bytes L.Source.faults L.Sink.faults link.old)
-        (told_by L.Source.left L.Sink.bytes L.Source.faults L.Sink.faults link.new) (O.bytes out.old) (O.bytes out.new)) }
-    ensures cause { HasLineCause result
-        (told_by L.Source.left L.Sink.bytes L.Source.faults L.Sink.faults link.old)
-        (told_by L.Source.left L.Sink.bytes L.Source.faults L.Sink.faults link.new) (O.faults out.old) (O.faults out.new) }
+        (L.told link.old) (L.told link.new) (O.bytes out.old) (O.bytes out.new)) }
+    ensures cause { HasLineCause result (L.told link.old) (L.told link.new) (O.faults out.old) (O.faults out.new) }
     ensures ready { IsReady values.new }
     ensures names { values.new.names ≡ values.old.names }
 {
@@ -159,18 +148,14 @@ fn ask_on<L: Duplex, O: Sink>(
     requires ready { IsReady values.old }
     requires known { IsLineKnown (names_of values.old.names) line.now }
     requires range { IsLineInRange line.now }
-    ensures ok { OnOk result ((d : L) → Exchanges (line_of line.now) Appends (values_of values.old) (values_of values.new)
-        (told_at (told_by L.Source.left L.Sink.bytes L.Source.faults L.Sink.faults) links.old line.now.link d)
-        (told_at (told_by L.Source.left L.Sink.bytes L.Source.faults L.Sink.faults) links.new line.now.link d)
+    ensures ok { OnOk result ((d : L) → Exchanges (line_of line.now) Appends (values_of values.old)
+        (values_of values.new) (told_at L.told links.old line.now.link d) (told_at L.told links.new line.now.link d)
         (O.bytes out.old) (O.bytes out.new)) }
-    ensures fault { IfErr result (λ cause. (d : L) → Fails cause (line_of line.now) (values_of values.old) (values_of values.new)
-        (told_at (told_by L.Source.left L.Sink.bytes L.Source.faults L.Sink.faults) links.old line.now.link d)
-        (told_at (told_by L.Source.left L.Sink.bytes L.Source.faults L.Sink.faults) links.new line.now.link d)
+    ensures fault { IfErr result (λ cause. (d : L) → Fails cause (line_of line.now) (values_of values.old)
+        (values_of values.new) (told_at L.told links.old line.now.link d) (told_at L.told links.new line.now.link d)
         (O.bytes out.old) (O.bytes out.new)) }
-    ensures cause { (d : L) → HasLineCause result
-        (told_at (told_by L.Source.left L.Sink.bytes L.Source.faults L.Sink.faults) links.old line.now.link d)
-        (told_at (told_by L.Source.left L.Sink.bytes L.Source.faults L.Sink.faults) links.new line.now.link d)
-        (O.faults out.old) (O.faults out.new) }
+    ensures cause { (d : L) → HasLineCause result (told_at L.told links.old line.now.link d)
+        (told_at L.told links.new line.now.link d) (O.faults out.old) (O.faults out.new) }
     ensures others { (k : ℕ) (d : L) → (line.now.link ≡ k → ⊥) → slice_index_or links.new k d ≡ slice_index_or links.old k d }
     ensures ready { IsReady values.new }
     ensures names { values.new.names ≡ values.old.names }
@@ -190,12 +175,11 @@ pub fn run<L: Duplex, O: Sink>(
     requires range { All IsLineInRange lines.now }
     requires link { All (λ l. l.link < length links.old) lines.now }
     requires fresh { values_of values.old ≡ no_values }
-    ensures whole { OnOk result (RunsWhole (told_by L.Source.left L.Sink.bytes L.Source.faults L.Sink.faults) (lines_are lines.now)
-        links.old links.new (O.bytes out.old) (O.bytes out.new)) }
-    ensures stops { IfErr result (λ fault. Stops (told_by L.Source.left L.Sink.bytes L.Source.faults L.Sink.faults) (lines_are lines.now)
-        links.old links.new (O.bytes out.old) (O.bytes out.new) fault.cause fault.line) }
-    ensures cause { HasRunCause (told_by L.Source.left L.Sink.bytes L.Source.faults L.Sink.faults)
-        result links.old links.new (O.faults out.old) (O.faults out.new) }
+    ensures whole { OnOk result (RunsWhole L.told (lines_are lines.now) links.old links.new (O.bytes out.old)
+        (O.bytes out.new)) }
+    ensures stops { IfErr result (λ fault. Stops L.told (lines_are lines.now) links.old links.new (O.bytes out.old)
+        (O.bytes out.new) fault.cause fault.line) }
+    ensures cause { HasRunCause L.told result links.old links.new (O.faults out.old) (O.faults out.new) }
 {
     for line in lines {
         match ask_on(line, links, values, out) {

@@ -12,7 +12,7 @@ use Rattle.dpe_model.proofs.Spent.{other_bytes}
 use Rattle.dpe_io.specs.Causes.{Rose}
 use Rattle.dpe_link.specs.Frames.{frame, Frames, told_length, IsUnfinished, in_head, in_payload}
 use Rattle.dpe_link.proofs.Splits.{one_split}
-use Rattle.dpe_connections.specs.Conn.{Conn}
+use Rattle.dpe_io.specs.Told.{Told}
 use Rattle.dpe_connections.specs.Endings.{Ending, closed, cut, too_long, read_fault, entropy_fault, full, reply_fault, refusal_fault, HasEntropyCause, KeepsTicket}
 use Rattle.dpe_connections.specs.Served.{journal_full, output, Served}
 use Rattle.dpe_connections.specs.Observed.{rest_ending, observed, without_ticket, HasNoFault, Tells}
@@ -29,13 +29,13 @@ still_0 : (old new : ℕ) → old ≡ 0 → new ≡ old → nat_lt 0 new ≡ fal
 still_0 old new z h = ap (nat_lt 0) (h ∙ z)
 
 -- what is observed, where no call failed
-no_fault : (extra : ℕ) (before after : Conn) (rest : List ℕ) (refused : Bool) → HasNoFault before → after.read_faults ≡ before.read_faults → after.write_faults ≡ before.write_faults →
+no_fault : (extra : ℕ) (before after : Told) (rest : List ℕ) (refused : Bool) → HasNoFault before → after.read_faults ≡ before.read_faults → after.write_faults ≡ before.write_faults →
     observed extra after rest refused ≡ cond (nat_eq extra 0) (rest_ending rest) (cond refused (full 0) entropy_fault)
 no_fault extra before after rest refused none h k =
     ap (λ b. cond b read_fault (cond (nat_lt 0 after.write_faults) (cond (nat_eq extra 0) reply_fault refusal_fault) (cond (nat_eq extra 0) (rest_ending rest) (cond refused (full 0) entropy_fault)))) (still_0 before.read_faults after.read_faults none.0 h)
     ∙ ap (λ b. cond b (cond (nat_eq extra 0) reply_fault refusal_fault) (cond (nat_eq extra 0) (rest_ending rest) (cond refused (full 0) entropy_fault))) (still_0 before.write_faults after.write_faults none.1 k)
 
-write_failed : (extra : ℕ) (before after : Conn) (rest : List ℕ) (refused : Bool) → HasNoFault before → after.read_faults ≡ before.read_faults → Rose before.write_faults after.write_faults →
+write_failed : (extra : ℕ) (before after : Told) (rest : List ℕ) (refused : Bool) → HasNoFault before → after.read_faults ≡ before.read_faults → Rose before.write_faults after.write_faults →
     observed extra after rest refused ≡ cond (nat_eq extra 0) reply_fault refusal_fault
 write_failed extra before after rest refused none h k =
     ap (λ b. cond b read_fault (cond (nat_lt 0 after.write_faults) (cond (nat_eq extra 0) reply_fault refusal_fault) (cond (nat_eq extra 0) (rest_ending rest) (cond refused (full 0) entropy_fault)))) (still_0 before.read_faults after.read_faults none.0 h)
@@ -78,7 +78,7 @@ output_differs entries h =
     more : (before text : List ℕ) → 0 < length text → before ≢ before ++ text
     more before text some same = omega (arith, ap length same, length-append before text)
 
-module _ (capacity locality : ℕ) (entries : List Entry) (before after : Conn) (none : HasNoFault before) where
+module _ (capacity locality : ℕ) (entries : List Entry) (before after : Told) (none : HasNoFault before) where
   -- where no call failed, and each frame has an entry
   at_rest : (ending : Ending) (s : Served capacity locality entries before after ending) → after.read_faults ≡ before.read_faults → after.write_faults ≡ before.write_faults → length s.payloads ≡ length entries + 0
       → observed (length s.payloads - length entries) after s.rest (bytes_eq s.wrote (output entries 1)) ≡ rest_ending s.rest
@@ -125,7 +125,7 @@ one_written None b xs ys some h k = absurd (cc)
 one_written (Some a) None xs ys some h k = absurd h
 one_written (Some a) (Some b) xs ys some h k = append_cancel_left a xs ys (sym h ∙ k)
 
-pub one_ending : (capacity locality : ℕ) (entries : List Entry) (before after : Conn) (ending other : Ending) → Tells before → HasNoFault before
+pub one_ending : (capacity locality : ℕ) (entries : List Entry) (before after : Told) (ending other : Ending) → Tells before → HasNoFault before
     → Served capacity locality entries before after ending → Served capacity locality entries before after other → without_ticket ending ≡ without_ticket other
 one_ending capacity locality entries before after ending other tells none s t =
     let taken = one_taken before.left after.left s.taken t.taken tells.0 s.read t.read in
@@ -137,7 +137,7 @@ one_ending capacity locality entries before after ending other tells none s t =
     ∙ (ap (λ bytes. observed (length t.payloads - length entries) after t.rest (bytes_eq bytes (output entries 1))) wrote
     ∙ sym (is_observed capacity locality entries before after none other t))))
 
-pub closed_only : (capacity locality : ℕ) (entries : List Entry) (before after : Conn) (ending : Ending) (drawn_from drawn_to : ℕ) (old new : Option ℕ) (s : Served capacity locality entries before after ending)
+pub closed_only : (capacity locality : ℕ) (entries : List Entry) (before after : Told) (ending : Ending) (drawn_from drawn_to : ℕ) (old new : Option ℕ) (s : Served capacity locality entries before after ending)
     → HasEntropyCause ending drawn_from drawn_to → KeepsTicket ending old new → s.rest ≡ [] → ¬ Rose before.read_faults after.read_faults → ¬ Rose before.write_faults after.write_faults
     → ¬ Rose drawn_from drawn_to → new ≡ None → ending ≡ closed
 closed_only capacity locality entries before after closed drawn_from drawn_to old new s cause ticket rest reads writes draws free = refl

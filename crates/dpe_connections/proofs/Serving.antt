@@ -10,7 +10,7 @@ use Rattle.dpe_io.specs.Told.{Draws as DrawsWord}
 use Rattle.dpe_link.specs.Frames.{frame}
 use Rattle.dpe_model.specs.History.{Entry}
 use Rattle.dpe_journal.specs.Entries.{Sent, entry_from}
-use Rattle.dpe_connections.specs.Conn.{Conn, KeepsCounts}
+use Rattle.dpe_io.specs.Told.{Told, KeepsCounts}
 use Rattle.dpe_connections.specs.Drawn.{AreDrawn}
 use Rattle.dpe_connections.specs.Passes.{Seat, MadeJust, history_of}
 use Rattle.dpe_connections.specs.Served.{output, AnswerInOrder}
@@ -24,7 +24,7 @@ abbrev pub DrawsFor : List Entry → Option (List (List ℕ)) → Option (List (
 DrawsFor entries words left = IfTold (λ ws ls. AreDrawn ws (map (λ (e : Entry). e.random) entries) ls) words left
 
 -- so many commands were answered, and no call failed
-pub record Serving (caller connection locality index : ℕ) (v w : Seat) (old now : Conn) (words left : Option (List (List ℕ))) : Type 0 where
+pub record Serving (caller connection locality index : ℕ) (v w : Seat) (old now : Told) (words left : Option (List (List ℕ))) : Type 0 where
   pub entries : List Entry
   pub payloads : List (List ℕ)
   pub each : AllByRecursion (λ payload. length payload ≤ 4096) payloads
@@ -56,7 +56,7 @@ drawn_start : (words : Option (List (List ℕ))) → DrawsFor [] words words
 drawn_start None = tt
 drawn_start (Some ws) = refl
 
-pub serving_start : (caller connection locality : ℕ) (v : Seat) (old : Conn) (words : Option (List (List ℕ))) → Serving caller connection locality 0 v v old old words words
+pub serving_start : (caller connection locality : ℕ) (v : Seat) (old : Told) (words : Option (List (List ℕ))) → Serving caller connection locality 0 v v old old words words
 serving_start caller connection locality v old words = record {
   entries = [];
   payloads = [];
@@ -74,7 +74,7 @@ serving_start caller connection locality v old words = record {
   quiet = λ n. refl;
 }
 
-module _ (caller connection locality index : ℕ) (v w : Seat) (old now : Conn) (words left : Option (List (List ℕ))) (s : Serving caller connection locality index v w old now words left) where
+module _ (caller connection locality index : ℕ) (v w : Seat) (old now : Told) (words left : Option (List (List ℕ))) (s : Serving caller connection locality index v w old now words left) where
   -- one entry more, in what was made
   pub made_more : (e : Entry) (then : Seat) → MadeJust w (e ∷ []) then → MadeJust v (s.entries ++ e ∷ []) then
   made_more e then made =
@@ -89,14 +89,14 @@ module _ (caller connection locality index : ℕ) (v w : Seat) (old now : Conn) 
       subst (λ (drawn : List (List ℕ)). IfTold (λ ws ls. AreDrawn ws drawn ls) words then) (sym shape) (told_more words left then (map R s.entries) random s.drawn draws)
 
   -- one frame more was read
-  pub read_more : (mid next : Conn) (payload : List ℕ) → Receives now mid payload → next.left ≡ mid.left → Consumes old.left next.left (flat_map frame (s.payloads ++ payload ∷ []))
+  pub read_more : (mid next : Told) (payload : List ℕ) → Receives now mid payload → next.left ≡ mid.left → Consumes old.left next.left (flat_map frame (s.payloads ++ payload ∷ []))
   read_more mid next payload r same =
       subst (λ (t : List ℕ). Consumes old.left next.left t) (sym (frames_more s.payloads payload))
       (Consumes-trans old.left now.left next.left (flat_map frame s.payloads) (frame payload) s.read
       (subst (λ (o : Option (List ℕ)). Consumes now.left o (frame payload)) (sym same) r.read))
 
   -- and this text was written
-  pub written_more : (mid next : Conn) (payload text : List ℕ) → Receives now mid payload → Appends mid.written next.written text → Appends old.written next.written (output s.entries 0 ++ text)
+  pub written_more : (mid next : Told) (payload text : List ℕ) → Receives now mid payload → Appends mid.written next.written text → Appends old.written next.written (output s.entries 0 ++ text)
   written_more mid next payload text r sent =
       Appends-trans old.written now.written next.written (output s.entries 0) text s.written
       (subst (λ (o : Option (List ℕ)). Appends o next.written text) r.written sent)
@@ -119,7 +119,7 @@ module _ (caller connection locality index : ℕ) (v w : Seat) (old now : Conn) 
   ours_more sent random payload reply n =
       all_more (IsOn caller connection) s.entries (entry_from (own_name w) sent reply) s.ours (n.own, ap (λ (x : Sent). x.connection) n.sent_is)
 
-  pub serving_more : (w' : Seat) (mid next : Conn) (then : Option (List (List ℕ))) (sent : Sent) (random payload : List ℕ) → Next sent random payload
+  pub serving_more : (w' : Seat) (mid next : Told) (then : Option (List (List ℕ))) (sent : Sent) (random payload : List ℕ) → Next sent random payload
       → Receives now mid payload → DrawsWord left then random → Answers w w' sent mid next → Serving caller connection locality (index + 1) v w' old next words then
   serving_more w' mid next then sent random payload n r draws a =
       let e : Entry = entry_from (own_name w) sent a.reply in

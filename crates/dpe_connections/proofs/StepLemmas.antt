@@ -1,7 +1,7 @@
 -- What a step of a connection says, by how it ended.
 use Rattle.std.proofs.Common.{◌≡◌, ℕ, List, Option, None, refl, sym, ap, ◌∙◌}
 use Rattle.dpe_io.specs.Causes.{Other}
-use Rattle.dpe_connections.specs.Conn.{Conn}
+use Rattle.dpe_io.specs.Told.{Told}
 use Rattle.dpe_connections.specs.Endings.{ending_of}
 use Rattle.dpe_connections.specs.Steps.{ReceivesNone}
 use Rattle.dpe_connections.specs.declared.connection.End.{End}
@@ -15,7 +15,7 @@ beside_stays beside bytes faults law old new same =
     (ap (λ (o : Other). o.bytes) both, ap (λ (o : Other). o.faults) both)
 
 -- how a connection ended that received no command doesn't hang on the pass
-pub unreceived : (end : End) (kept : Option ℕ) (old new : Conn) → ReceivesNone (ending_of end None) old new → ending_of end None ≡ ending_of end kept
+pub unreceived : (end : End) (kept : Option ℕ) (old new : Told) → ReceivesNone (ending_of end None) old new → ending_of end None ≡ ending_of end kept
 unreceived ends.Closed kept old new h = refl
 unreceived (ends.Full ticket) kept old new h = refl
 unreceived (ends.Cut have) kept old new h = refl

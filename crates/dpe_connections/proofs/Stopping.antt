@@ -11,7 +11,7 @@ use Rattle.dpe_link.specs.Frames.{frame, IsUnfinished, IsTooLong}
 use Rattle.dpe_messages.specs.Replies.{refusal}
 use Rattle.dpe_model.specs.History.{Entry}
 use Rattle.dpe_journal.specs.Entries.{Sent, entry_from}
-use Rattle.dpe_connections.specs.Conn.{Conn, KeepsCounts}
+use Rattle.dpe_io.specs.Told.{Told, KeepsCounts}
 use Rattle.dpe_connections.specs.Drawn.{AreDrawn, Draws}
 use Rattle.dpe_connections.specs.Endings.{Ending, ending_of, closed, cut, too_long, read_fault, entropy_fault, full, reply_fault, refusal_fault, unanswered, words_more}
 use Rattle.dpe_connections.specs.Passes.{Seat, history_of}
@@ -36,7 +36,7 @@ partial_of reply_fault rest h = inl h
 partial_of refusal_fault rest h = inl h
 
 -- the counts since the connection began, where they had been kept so far
-faults_since : (ending : Ending) (old now next : Conn) → KeepsCounts old now → Faults ending now next → Faults ending old next
+faults_since : (ending : Ending) (old now next : Told) → KeepsCounts old now → Faults ending now next → Faults ending old next
 faults_since closed old now next k h = (h.0 ∙ k.0, h.1 ∙ k.1)
 faults_since (cut have) old now next k h = (h.0 ∙ k.0, h.1 ∙ k.1)
 faults_since (too_long told) old now next k h = (h.0 ∙ k.0, h.1 ∙ k.1)
@@ -47,7 +47,7 @@ faults_since reply_fault old now next k h = (h.0 ∙ k.0, subst (λ (n : ℕ). R
 faults_since refusal_fault old now next k h = (h.0 ∙ k.0, subst (λ (n : ℕ). Rose n next.write_faults) k.1 h.1)
 
 -- the counts over two steps, the first of which kept them
-keeps_both : (old mid new : Conn) → KeepsCounts old mid → KeepsCounts mid new → KeepsCounts old new
+keeps_both : (old mid new : Told) → KeepsCounts old mid → KeepsCounts mid new → KeepsCounts old new
 keeps_both old mid new k h = (h.0 ∙ k.0, h.1 ∙ k.1)
 
 -- the whole frames, and no rest
@@ -63,9 +63,9 @@ draws_none entries words left h =
 draws_one : (entries : List Entry) (words left then : Option (List (List ℕ))) (random : List ℕ) → DrawsFor entries words left → DrawsWord left then random → Draws entries 1 words then
 draws_one entries words left then random h d = (random ∷ [], refl, told_more words left then (map (λ (e : Entry). e.random) entries) random h d)
 
-module _ (caller connection locality index capacity : ℕ) (v w : Seat) (old now : Conn) (words left : Option (List (List ℕ))) (s : Serving caller connection locality index v w old now words left) where
+module _ (caller connection locality index capacity : ℕ) (v w : Seat) (old now : Told) (words left : Option (List (List ℕ))) (s : Serving caller connection locality index v w old now words left) where
   -- no frame was read
-  stops_reading : (next : Conn) (ending : Ending) → unanswered ending ≡ 0 → words_more ending ≡ 0 → Writes ending s.entries (output s.entries 0) → ReadsNoFrame ending now next
+  stops_reading : (next : Told) (ending : Ending) → unanswered ending ≡ 0 → words_more ending ≡ 0 → Writes ending s.entries (output s.entries 0) → ReadsNoFrame ending now next
       → ServedBy caller connection capacity locality ending v w old next words left
   stops_reading next ending none drawn writes n =
       let many = s.many in
@@ -94,7 +94,7 @@ module _ (caller connection locality index capacity : ℕ) (v w : Seat) (old now
       }
 
   -- a frame was read, and no word drawn
-  stops_drawing : (next : Conn) (payload : List ℕ) → Receives now next payload → ServedBy caller connection capacity locality entropy_fault v w old next words left
+  stops_drawing : (next : Told) (payload : List ℕ) → Receives now next payload → ServedBy caller connection capacity locality entropy_fault v w old next words left
   stops_drawing next payload r =
       let many = s.many in
       let all = s.all in
@@ -123,7 +123,7 @@ module _ (caller connection locality index capacity : ℕ) (v w : Seat) (old now
       }
 
   -- the pass met a full journal, and the refusal was written
-  stops_full : (w' : Seat) (mid next : Conn) (then : Option (List (List ℕ))) (random payload : List ℕ) (ticket : ℕ) → Receives now mid payload → DrawsWord left then random
+  stops_full : (w' : Seat) (mid next : Told) (then : Option (List (List ℕ))) (random payload : List ℕ) (ticket : ℕ) → Receives now mid payload → DrawsWord left then random
       → MeetsFull capacity ticket w w' → Sends mid next (frame (refusal journal_full)) → ServedBy caller connection capacity locality (full ticket) v w' old next words then
   stops_full w' mid next then random payload ticket r draws m sends =
       let many = s.many in
@@ -154,7 +154,7 @@ module _ (caller connection locality index capacity : ℕ) (v w : Seat) (old now
       }
 
   -- and a write of it failed
-  stops_refusing : (w' : Seat) (mid next : Conn) (then : Option (List (List ℕ))) (random payload : List ℕ) (ticket : ℕ) → Receives now mid payload → DrawsWord left then random
+  stops_refusing : (w' : Seat) (mid next : Told) (then : Option (List (List ℕ))) (random payload : List ℕ) (ticket : ℕ) → Receives now mid payload → DrawsWord left then random
       → MeetsFull capacity ticket w w' → SendsFront mid next (frame (refusal journal_full)) → ServedBy caller connection capacity locality refusal_fault v w' old next words then
   stops_refusing w' mid next then random payload ticket r draws m sends =
       let many = s.many in
@@ -189,7 +189,7 @@ module _ (caller connection locality index capacity : ℕ) (v w : Seat) (old now
       }
 
   -- the call was made, and a write of its reply failed
-  stops_replying : (w' : Seat) (mid next : Conn) (then : Option (List (List ℕ))) (sent : Sent) (random payload : List ℕ)
+  stops_replying : (w' : Seat) (mid next : Told) (then : Option (List (List ℕ))) (sent : Sent) (random payload : List ℕ)
       → Next caller connection locality index v w old now words left s sent random payload → Receives now mid payload → DrawsWord left then random
       → AnswersPart w w' sent mid next → ServedBy caller connection capacity locality reply_fault v w' old next words then
   stops_replying w' mid next then sent random payload n r draws a =
@@ -228,7 +228,7 @@ module _ (caller connection locality index capacity : ℕ) (v w : Seat) (old now
       }
 
   -- no command was received
-  stops_receiving : (next : Conn) (ending : Ending) → ReceivesNone ending now next → ServedBy caller connection capacity locality ending v w old next words left
+  stops_receiving : (next : Told) (ending : Ending) → ReceivesNone ending now next → ServedBy caller connection capacity locality ending v w old next words left
   stops_receiving next closed n = stops_reading next closed refl refl refl n
   stops_receiving next (cut have) n = stops_reading next (cut have) refl refl refl n
   stops_receiving next (too_long told) n = stops_reading next (too_long told) refl refl refl n
@@ -239,14 +239,14 @@ module _ (caller connection locality index capacity : ℕ) (v w : Seat) (old now
   stops_receiving next refusal_fault n = absurd n
 
   -- the same by the end that is answered
-  pub stopped_receiving : (next : Conn) (end : End) (then : Option (List (List ℕ))) → ReceivesNone (ending_of end None) now next → then ≡ left
+  pub stopped_receiving : (next : Told) (end : End) (then : Option (List (List ℕ))) → ReceivesNone (ending_of end None) now next → then ≡ left
       → ServedBy caller connection capacity locality (ending_of end w.full) v w old next words then
   stopped_receiving next end then n same =
       subst (λ (ending : Ending). ServedBy caller connection capacity locality ending v w old next words then) (unreceived end w.full now next n)
       (subst (λ (o : Option (List (List ℕ))). ServedBy caller connection capacity locality (ending_of end None) v w old next words o) (sym same) (stops_receiving next (ending_of end None) n))
 
   -- a command was received, and got no whole reply of its own
-  pub stops_answering : (w' : Seat) (mid next : Conn) (then : Option (List (List ℕ))) (sent : Sent) (random payload : List ℕ) (ending : Ending)
+  pub stops_answering : (w' : Seat) (mid next : Told) (then : Option (List (List ℕ))) (sent : Sent) (random payload : List ℕ) (ending : Ending)
       → Next caller connection locality index v w old now words left s sent random payload → Receives now mid payload → DrawsWord left then random
       → AnswersNone ending capacity w w' sent mid next → ServedBy caller connection capacity locality ending v w' old next words then
   stops_answering w' mid next then sent random payload closed n r d a = absurd a

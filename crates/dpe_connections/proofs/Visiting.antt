@@ -5,7 +5,7 @@ use Rattle.dpe_desk.specs.Passes.{own_name, first_of}
 use Rattle.dpe_desk.specs.Views.{Sound}
 use Rattle.dpe_model.specs.History.{Entry, entries_of_connection}
 use Rattle.dpe_journal.specs.Shared.{IsLegalFor}
-use Rattle.dpe_connections.specs.Conn.{Conn}
+use Rattle.dpe_io.specs.Told.{Told}
 use Rattle.dpe_connections.specs.Endings.{Ending}
 use Rattle.dpe_connections.specs.Passes.{Seat, history_of, entries_on, made_on}
 use Rattle.dpe_connections.specs.ServedBy.{ServedBy}
@@ -17,7 +17,7 @@ pub record IsNamed (v w : Seat) (name : ℕ) : Type 0 where
   pub own : 0 < times name v.names
   pub names : w.names ≡ v.names
 
-module _ (connection capacity locality name : ℕ) (ending : Ending) (v w : Seat) (before after : Conn) (words left : Option (List (List ℕ)))
+module _ (connection capacity locality name : ℕ) (ending : Ending) (v w : Seat) (before after : Told) (words left : Option (List (List ℕ)))
     (x : ServedBy (own_name v) connection capacity locality ending v w before after words left) where
   seen_are : IsNamed v w name → Sound IsLegalFor w → made_on v connection ≡ [] → entries_on w connection ≡ x.entries
   seen_are n sound unused =

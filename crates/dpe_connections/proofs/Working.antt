@@ -13,8 +13,9 @@ use Rattle.dpe_desk.specs.Views.{Sound}
 use Rattle.dpe_io.specs.Told.{IfTold, Lists, later, GoesOut, ComesBack}
 use Rattle.dpe_model.specs.History.{Entry, entries_of_connection}
 use Rattle.dpe_journal.specs.Shared.{IsLegalFor}
-use Rattle.dpe_connections.specs.Conn.{Conn}
-use Rattle.dpe_connections.specs.Drawn.{Random, AreDrawn, Draws}
+use Rattle.dpe_io.specs.Told.{Told}
+use Rattle.dpe_io.specs.Tells.{Random}
+use Rattle.dpe_connections.specs.Drawn.{AreDrawn, Draws}
 use Rattle.dpe_connections.specs.Endings.{Ending, closed, cut, too_long, read_fault, entropy_fault, full, reply_fault, refusal_fault, ending_of, is_told_full, is_full, is_cut, is_entropy_fault, words_more, KeepsTicket, HasEntropyCause}
 use Rattle.dpe_connections.specs.Passes.{Seat, MadeJust, history_of, entries_on, made_on}
 use Rattle.dpe_connections.specs.Served.{AnswerInOrder, Served}
@@ -93,7 +94,7 @@ seen_is_made w connection sound own =
 -- ## Lists of visits
 
 module _ {C : Type 0} where
-  served_as : (tell : C → Conn) (capacity locality number : ℕ) (f g : ℕ → List Entry) (visits : List (Visit C)) → ((k : ℕ) → k < number + length visits → g k ≡ f k) → AllServed tell capacity locality f number visits
+  served_as : (tell : C → Told) (capacity locality number : ℕ) (f g : ℕ → List Entry) (visits : List (Visit C)) → ((k : ℕ) → k < number + length visits → g k ≡ f k) → AllServed tell capacity locality f number visits
       → AllServed tell capacity locality g number visits
   served_as tell capacity locality number f g [] same h = tt
   served_as tell capacity locality number f g (v ∷ vs) same h = (
@@ -101,7 +102,7 @@ module _ {C : Type 0} where
     served_as tell capacity locality (number + 1) f g vs (λ k lt. same k (omega arith)) h.1,
   )
 
-  served_more : (tell : C → Conn) (capacity locality number last : ℕ) (f : ℕ → List Entry) (visits : List (Visit C)) (v : Visit C) → number + length visits ≡ last → AllServed tell capacity locality f number visits
+  served_more : (tell : C → Told) (capacity locality number last : ℕ) (f : ℕ → List Entry) (visits : List (Visit C)) (v : Visit C) → number + length visits ≡ last → AllServed tell capacity locality f number visits
       → Served capacity locality (f last) (tell v.before) (tell v.after) v.ending → AllServed tell capacity locality f number (visits ++ v ∷ [])
   served_more tell capacity locality number last f [] v at h one =
       (subst (λ (k : ℕ). Served capacity locality (f k) (tell v.before) (tell v.after) v.ending) (let same : last ≡ number = omega arith in same) one, tt)
@@ -258,7 +259,7 @@ cut_of_end ends.EntropyFault kept = refl
 -- ## The loop
 
 -- the connections below a number were served, by a pass that made nothing else
-pub record Working {C : Type 0} (tell : C → Conn) (capacity name locality connections : ℕ) (w : Seat) (old now : Option (Lists C)) (words left : Option (List (List ℕ))) (before faults fulls cuts : ℕ) : Type 0 where
+pub record Working {C : Type 0} (tell : C → Told) (capacity name locality connections : ℕ) (w : Seat) (old now : Option (Lists C)) (words left : Option (List (List ℕ))) (before faults fulls cuts : ℕ) : Type 0 where
   pub visits : List (Visit C)
   pub through : IfTold (GoThrough visits) old now
   pub number : length visits ≡ connections
@@ -272,7 +273,7 @@ pub record Working {C : Type 0} (tell : C → Conn) (capacity name locality conn
   pub cut_are : cuts ≡ ended is_cut visits
   pub only : AllByRecursion (IsFrom name locality connections) (history_of w.made)
 
-pub working_start : {C : Type 0} (tell : C → Conn) (capacity name locality : ℕ) (w : Seat) (lists : Option (Lists C)) (words : Option (List (List ℕ))) (faults : ℕ) → w.made ≡ []
+pub working_start : {C : Type 0} (tell : C → Told) (capacity name locality : ℕ) (w : Seat) (lists : Option (Lists C)) (words : Option (List (List ℕ))) (faults : ℕ) → w.made ≡ []
     → Working tell capacity name locality 0 w lists lists words words faults faults 0 0
 working_start tell capacity name locality w lists words faults none = record {
   visits = [];
@@ -290,7 +291,7 @@ working_start tell capacity name locality w lists words faults none = record {
 }
 
 -- what one served connection is to the pass and to the entropy
-pub record Once {C : Type 0} (tell : C → Conn) (capacity locality connection : ℕ) (w w' : Seat) (v : Visit C) (left then : Option (List (List ℕ))) (faults next : ℕ) : Type 0 where
+pub record Once {C : Type 0} (tell : C → Told) (capacity locality connection : ℕ) (w w' : Seat) (v : Visit C) (left then : Option (List (List ℕ))) (faults next : ℕ) : Type 0 where
   pub made : MadeJust w (entries_on w' connection) w'
   pub served : Served capacity locality (entries_on w' connection) (tell v.before) (tell v.after) v.ending
   pub ticket : KeepsTicket v.ending w.full w'.full
@@ -317,7 +318,7 @@ one_of_two : (b : Bool) (n m : ℕ) → m ≡ n + cond b 1 0 → (n ≡ 0) → 0
 one_of_two true n m e z h = refl
 one_of_two false n m e z h = absurd (omega arith)
 
-module _ {C : Type 0} (tell : C → Conn) (capacity name locality connections : ℕ) (w w' : Seat) (old now next : Option (Lists C)) (words left then : Option (List (List ℕ))) (before faults faults' fulls cuts : ℕ)
+module _ {C : Type 0} (tell : C → Told) (capacity name locality connections : ℕ) (w w' : Seat) (old now next : Option (Lists C)) (words left then : Option (List (List ℕ))) (before faults faults' fulls cuts : ℕ)
     (k : Working tell capacity name locality connections w old now words left before faults fulls cuts) (v : Visit C) (o : Once tell capacity locality connections w w' v left then faults faults') (n : Named name w w') where
   on_this : AllByRecursion (IsOn name connections) (entries_on w' connections)
   on_this = subst (λ (m : ℕ). AllByRecursion (IsOn m connections) (entries_on w' connections)) n.new (all_on (own_name w') connections (history_of w'.seen))
@@ -387,7 +388,7 @@ module _ {C : Type 0} (tell : C → Conn) (capacity name locality connections : 
       }
 
 -- the same, of what the pass has seen
-pub working_done : {C : Type 0} (tell : C → Conn) (capacity name locality : ℕ) (tally : Tally) (w : Seat) (old now : Option (Lists C)) (drawn_from drawn_to : Random)
+pub working_done : {C : Type 0} (tell : C → Told) (capacity name locality : ℕ) (tally : Tally) (w : Seat) (old now : Option (Lists C)) (drawn_from drawn_to : Random)
     → Sound IsLegalFor w → 0 < times (own_name w) w.names
     → Working tell capacity name locality tally.connections w old now drawn_from.words drawn_to.words drawn_from.faults drawn_to.faults tally.full tally.cut
     → ServesDoor tell capacity locality tally w old now drawn_from drawn_to

@@ -3,14 +3,6 @@ use Rattle.std.specs.Prelude.{ℕ, ◌≡◌, List, [], ◌∷◌, ◌++◌, len
 use Rattle.dpe_io.specs.Told.{IfTold, word, later}
 use Rattle.dpe_model.specs.History.{Entry}
 
--- what an entropy tells: the words that it will give before zeros, where it tells them, and its count of faults
-pub record Random : Type 0 where
-  pub words : Option (List (List ℕ))
-  pub faults : ℕ
-
-abbrev pub random_by : {E : Type 0} → (E → Option (List (List ℕ))) → (E → ℕ) → E → Random
-random_by words faults x = record { words = words x; faults = faults x }
-
 -- an entropy with the words old gave the drawn ones, one after the other, and has the words new left
 abbrev pub AreDrawn : List (List ℕ) → List (List ℕ) → List (List ℕ) → Type 0
 AreDrawn old [] new = new ≡ old

@@ -1,4 +1,3 @@
-pub mod Conn
 pub mod Drawn
 pub mod Endings
 pub mod Observed

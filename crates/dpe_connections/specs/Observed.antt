@@ -5,7 +5,7 @@ use Rattle.std.specs.Str.{bytes_eq}
 use Rattle.dpe_io.specs.Causes.{Rose}
 use Rattle.dpe_link.specs.Frames.{told_length}
 use Rattle.dpe_model.specs.History.{Entry}
-use Rattle.dpe_connections.specs.Conn.{Conn}
+use Rattle.dpe_io.specs.Told.{Told}
 use Rattle.dpe_connections.specs.Endings.{Ending, closed, cut, too_long, read_fault, entropy_fault, full, reply_fault}
 use Rattle.dpe_connections.specs.Endings.{refusal_fault, HasEntropyCause, KeepsTicket}
 use Rattle.dpe_connections.specs.Served.{output, Served}
@@ -20,7 +20,7 @@ rest_ending (b ∷ bytes) =
 
 -- The ending of a connection that began without a fault: by the number of frames that have no entry, its counts, the rest
 -- of the bytes read, and whether the bytes written end with the refusal. The ticket of a full journal isn't seen.
-abbrev pub observed : ℕ → Conn → List ℕ → Bool → Ending
+abbrev pub observed : ℕ → Told → List ℕ → Bool → Ending
 observed unanswered after rest refused =
     if nat_lt 0 after.read_faults then read_fault
     else (if nat_lt 0 after.write_faults then (if unanswered == 0 then reply_fault else refusal_fault)
@@ -31,24 +31,24 @@ abbrev pub without_ticket : Ending → Ending
 without_ticket (full ticket) = full 0
 without_ticket ending = ending
 
-abbrev pub HasNoFault : Conn → Type 0
+abbrev pub HasNoFault : Told → Type 0
 HasNoFault conn = (conn.read_faults ≡ 0) × (conn.write_faults ≡ 0)
 
 -- it tells the bytes left to read and those that were written
-abbrev pub Tells : Conn → Type 0
+abbrev pub Tells : Told → Type 0
 Tells conn = IsSome conn.left × IsSome conn.written
 
 -- A served connection ended as is observed.
 abbrev pub EndingIsObserved : Type 0
 EndingIsObserved =
-    (capacity locality : ℕ) (entries : List Entry) (before after : Conn) (ending : Ending) → HasNoFault before →
+    (capacity locality : ℕ) (entries : List Entry) (before after : Told) (ending : Ending) → HasNoFault before →
     (s : Served capacity locality entries before after ending) →
     without_ticket ending ≡ observed (length s.payloads - length entries) after s.rest (bytes_eq s.wrote (output entries 1))
 
 -- A connection that tells its bytes was served with one ending.
 abbrev pub OneEnding : Type 0
 OneEnding =
-    (capacity locality : ℕ) (entries : List Entry) (before after : Conn) (ending other : Ending) →
+    (capacity locality : ℕ) (entries : List Entry) (before after : Told) (ending other : Ending) →
     Tells before → HasNoFault before →
     Served capacity locality entries before after ending → Served capacity locality entries before after other →
     without_ticket ending ≡ without_ticket other
@@ -57,7 +57,7 @@ OneEnding =
 -- journal.
 abbrev pub ClosedWhereNothingFailed : Type 0
 ClosedWhereNothingFailed =
-    (capacity locality : ℕ) (entries : List Entry) (before after : Conn) (ending : Ending) →
+    (capacity locality : ℕ) (entries : List Entry) (before after : Told) (ending : Ending) →
     (drawn_from drawn_to : ℕ) (old new : Option ℕ) → (s : Served capacity locality entries before after ending) →
     HasEntropyCause ending drawn_from drawn_to → KeepsTicket ending old new → s.rest ≡ [] →
     ¬ Rose before.read_faults after.read_faults → ¬ Rose before.write_faults after.write_faults →

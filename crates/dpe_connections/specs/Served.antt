@@ -7,7 +7,7 @@ use Rattle.dpe_link.specs.Frames.{frame, Frames, told_length, IsUnfinished}
 use Rattle.dpe_link.specs.Reading.{IsNoFrame}
 use Rattle.dpe_messages.specs.Replies.{refusal}
 use Rattle.dpe_model.specs.History.{Entry}
-use Rattle.dpe_connections.specs.Conn.{Conn, KeepsCounts}
+use Rattle.dpe_io.specs.Told.{Told, KeepsCounts}
 use Rattle.dpe_connections.specs.Endings.{Ending, closed, cut, too_long, read_fault, full, reply_fault, refusal_fault}
 use Rattle.dpe_connections.specs.Endings.{unanswered}
 
@@ -35,7 +35,7 @@ IsRest read_fault rest = IsNoFrame rest
 IsRest ending rest = rest ≡ []
 
 -- Which of the two counts rose: that of a call that failed. The other is as before.
-abbrev pub Faults : Ending → Conn → Conn → Type 0
+abbrev pub Faults : Ending → Told → Told → Type 0
 Faults read_fault before after =
     Rose before.read_faults after.read_faults × (after.write_faults ≡ before.write_faults)
 Faults reply_fault before after =
@@ -45,7 +45,7 @@ Faults refusal_fault before after =
 Faults ending before after = KeepsCounts before after
 
 -- what else is behind the end: the source is at its end, or the ticket is at least the capacity
-abbrev pub Cause : Ending → ℕ → Conn → Type 0
+abbrev pub Cause : Ending → ℕ → Told → Type 0
 Cause closed capacity after = IsAtEnd after.left
 Cause (cut have) capacity after = IsAtEnd after.left
 Cause (full ticket) capacity after = capacity ≤ ticket
@@ -64,7 +64,7 @@ Writes refusal_fault entries wrote = IsPrefix (output entries 0) wrote × IsPref
 Writes ending entries wrote = wrote ≡ output entries 0
 
 -- A connection at this locality was answered by these entries, from one state of it to the other, and ended so.
-pub record Served (capacity locality : ℕ) (entries : List Entry) (before after : Conn) (ending : Ending) : Type 0 where
+pub record Served (capacity locality : ℕ) (entries : List Entry) (before after : Told) (ending : Ending) : Type 0 where
   pub taken : List ℕ
   pub wrote : List ℕ
   pub payloads : List (List ℕ)

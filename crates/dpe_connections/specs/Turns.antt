@@ -4,7 +4,7 @@ use Rattle.dpe_desk.specs.Passes.{own_name}
 use Rattle.dpe_journal.specs.Entries.{Sent, entry_from}
 use Rattle.dpe_link.specs.Frames.{frame}
 use Rattle.dpe_messages.specs.Replies.{refusal}
-use Rattle.dpe_connections.specs.Conn.{Conn}
+use Rattle.dpe_io.specs.Told.{Told}
 use Rattle.dpe_connections.specs.Endings.{Ending, full, reply_fault, refusal_fault}
 use Rattle.dpe_connections.specs.Passes.{Seat, MadeJust}
 use Rattle.dpe_connections.specs.Served.{journal_full}
@@ -16,13 +16,13 @@ pub record Makes (v w : Seat) (sent : Sent) (reply : List ℕ) : Type 0 where
   pub not_full : (v.full ≡ None) × (w.full ≡ None)
 
 -- the call was made, and the frame of its reply was written
-pub record Answers (v w : Seat) (sent : Sent) (old new : Conn) : Type 0 where
+pub record Answers (v w : Seat) (sent : Sent) (old new : Told) : Type 0 where
   pub reply : List ℕ
   pub makes : Makes v w sent reply
   pub sends : Sends old new (frame reply)
 
 -- the call was made, and a front of the frame of its reply was written
-pub record AnswersPart (v w : Seat) (sent : Sent) (old new : Conn) : Type 0 where
+pub record AnswersPart (v w : Seat) (sent : Sent) (old new : Told) : Type 0 where
   pub reply : List ℕ
   pub makes : Makes v w sent reply
   pub sends : SendsFront old new (frame reply)
@@ -34,7 +34,7 @@ pub record MeetsFull (capacity ticket : ℕ) (v w : Seat) : Type 0 where
   pub made : w.made ≡ v.made
 
 -- the command got no whole reply of its own, and the connection ends so
-abbrev pub AnswersNone : Ending → ℕ → Seat → Seat → Sent → Conn → Conn → Type 0
+abbrev pub AnswersNone : Ending → ℕ → Seat → Seat → Sent → Told → Told → Type 0
 AnswersNone (full ticket) capacity v w sent old new =
     MeetsFull capacity ticket v w × Sends old new (frame (refusal journal_full))
 AnswersNone reply_fault capacity v w sent old new = AnswersPart v w sent old new

@@ -4,8 +4,9 @@ use Rattle.std.specs.Prelude.{count_by, Option, None}
 use Rattle.std.specs.List.{AllByRecursion}
 use Rattle.dpe_io.specs.Told.{IfTold, Lists}
 use Rattle.dpe_model.specs.History.{Entry}
-use Rattle.dpe_connections.specs.Conn.{Conn}
-use Rattle.dpe_connections.specs.Drawn.{Random, Draws}
+use Rattle.dpe_io.specs.Told.{Told}
+use Rattle.dpe_io.specs.Tells.{Random}
+use Rattle.dpe_connections.specs.Drawn.{Draws}
 use Rattle.dpe_connections.specs.Endings.{Ending, is_told_full, is_full, is_cut, is_entropy_fault}
 use Rattle.dpe_connections.specs.Passes.{Seat, history_of, entries_on}
 use Rattle.dpe_connections.specs.Served.{Served}
@@ -35,11 +36,11 @@ module _ {C : Type 0} where
       (old.waiting ≡ map (λ v. v.before) visits ++ new.waiting) × (new.ended ≡ old.ended ++ map (λ v. v.after) visits)
 
   -- a connection had no fault when it was given out
-  abbrev pub IsFaultless : (C → Conn) → Visit C → Type 0
+  abbrev pub IsFaultless : (C → Told) → Visit C → Type 0
   IsFaultless tell v = ((tell v.before).read_faults ≡ 0) × ((tell v.before).write_faults ≡ 0)
 
   -- The connections from this number on were served by the entries of each number.
-  abbrev pub AllServed : (C → Conn) → ℕ → ℕ → (ℕ → List Entry) → ℕ → List (Visit C) → Type 0
+  abbrev pub AllServed : (C → Told) → ℕ → ℕ → (ℕ → List Entry) → ℕ → List (Visit C) → Type 0
   AllServed tell capacity locality entries number [] = Unit {0}
   AllServed tell capacity locality entries number (v ∷ vs) =
       Served capacity locality (entries number) (tell v.before) (tell v.after) v.ending
@@ -56,7 +57,7 @@ module _ {C : Type 0} where
   abbrev pub ended : (Ending → Bool) → List (Visit C) → ℕ
   ended test visits = count_by (λ v. test v.ending) visits
 
-  module _ (tell : C → Conn) (capacity locality : ℕ) (tally : Tally) where
+  module _ (tell : C → Told) (capacity locality : ℕ) (tally : Tally) where
     -- A door's connections were served by a pass, from its first call on, and the random bytes of their entries drawn.
     pub record ServesDoor (w : Seat) (old new : Option (Lists C)) (drawn_from drawn_to : Random) : Type 0 where
       pub visits : List (Visit C)

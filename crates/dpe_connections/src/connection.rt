@@ -5,7 +5,6 @@ ghost use Rattle.dpe_link.specs.Frames.{frame};
 ghost use Rattle.dpe_desk.specs.Passes.{Belongs, Grows, own_name};
 ghost use Rattle.dpe_desk.specs.Views.{Sound};
 ghost use Rattle.dpe_journal.specs.Shared.{IsLegalFor};
-ghost use Rattle.dpe_connections.specs.Conn.{told_by};
 ghost use Rattle.dpe_connections.specs.Drawn.{Draws};
 ghost use Rattle.dpe_connections.specs.Endings.{ending_of, words_more, KeepsTicket, HasEntropyCause};
 ghost use Rattle.dpe_connections.specs.Passes.{MadeJust, made_on, entries_on};
@@ -47,12 +46,8 @@ pub enum End {
 // Reads a frame, and says how many bytes of the room its payload has.
 fn read_command<C: Duplex>(conn: &mut C, room: &mut [u8; 4096]) -> Result<usize, End>
     ensures few { IfOk result (λ len. len ≤ 4096) }
-    ensures command { IfOk result (λ len. Receives
-        (told_by C.Source.left C.Sink.bytes C.Source.faults C.Sink.faults conn.old)
-        (told_by C.Source.left C.Sink.bytes C.Source.faults C.Sink.faults conn.new) (take len room.new)) }
-    ensures end { IfErr result (λ end. ReadsNone (ending_of end None)
-        (told_by C.Source.left C.Sink.bytes C.Source.faults C.Sink.faults conn.old)
-        (told_by C.Source.left C.Sink.bytes C.Source.faults C.Sink.faults conn.new)) }
+    ensures command { IfOk result (λ len. Receives (C.told conn.old) (C.told conn.new) (take len room.new)) }
+    ensures end { IfErr result (λ end. ReadsNone (ending_of end None) (C.told conn.old) (C.told conn.new)) }
 {
     match read_frame(conn, room) {
         Ok(Some(len)) => Ok(len),
@@ -71,12 +66,8 @@ fn receive<C: Duplex, E: Entropy>(
     random: &mut [u8; 32],
 ) -> Result<usize, End>
     ensures few { IfOk result (λ len. len ≤ 4096) }
-    ensures command { IfOk result (λ len. Receives
-        (told_by C.Source.left C.Sink.bytes C.Source.faults C.Sink.faults conn.old)
-        (told_by C.Source.left C.Sink.bytes C.Source.faults C.Sink.faults conn.new) (take len room.new)) }
-    ensures end { IfErr result (λ end. ReceivesNone (ending_of end None)
-        (told_by C.Source.left C.Sink.bytes C.Source.faults C.Sink.faults conn.old)
-        (told_by C.Source.left C.Sink.bytes C.Source.faults C.Sink.faults conn.new)) }
+    ensures command { IfOk result (λ len. Receives (C.told conn.old) (C.told conn.new) (take len room.new)) }
+    ensures end { IfErr result (λ end. ReceivesNone (ending_of end None) (C.told conn.old) (C.told conn.new)) }
     ensures words { MatchResult result (λ _. DrawsWord (E.words entropy.old) (E.words entropy.new) random.new)
         (λ _. E.words entropy.new ≡ E.words entropy.old) }
     ensures cause { MatchResult result (λ _. E.faults entropy.new ≡ E.faults entropy.old)
@@ -94,11 +85,8 @@ fn receive<C: Duplex, E: Entropy>(
 // Writes the frame of a payload.
 fn send<C: Duplex>(conn: &mut C, payload: &[u8]) -> Result<(), Failed>
     requires { length payload.now ≤ 4096 }
-    ensures { MatchResult result
-        (λ _. Sends (told_by C.Source.left C.Sink.bytes C.Source.faults C.Sink.faults conn.old)
-        (told_by C.Source.left C.Sink.bytes C.Source.faults C.Sink.faults conn.new) (frame payload.now))
-        (λ _. SendsFront (told_by C.Source.left C.Sink.bytes C.Source.faults C.Sink.faults conn.old)
-        (told_by C.Source.left C.Sink.bytes C.Source.faults C.Sink.faults conn.new) (frame payload.now)) }
+    ensures { MatchResult result (λ _. Sends (C.told conn.old) (C.told conn.new) (frame payload.now))
+        (λ _. SendsFront (C.told conn.old) (C.told conn.new) (frame payload.now)) }
 {
     match write_frame(conn, payload) {
         Ok(()) => Ok(()),
@@ -108,9 +96,7 @@ fn send<C: Duplex>(conn: &mut C, payload: &[u8]) -> Result<(), Failed>
 
 // Answers a command that found the journal full.
 fn refuse<C: Duplex>(conn: &mut C, room: &mut [u8; 4096], ticket: u64) -> End
-    ensures { Refuses (ending_of result (Some ticket)) ticket
-        (told_by C.Source.left C.Sink.bytes C.Source.faults C.Sink.faults conn.old)
-        (told_by C.Source.left C.Sink.bytes C.Source.faults C.Sink.faults conn.new) }
+    ensures { Refuses (ending_of result (Some ticket)) ticket (C.told conn.old) (C.told conn.new) }
 {
     let len = write_reply(&Reply::Refused(JOURNAL_FULL), room);
     match send(conn, &room[..len]) {
@@ -131,13 +117,9 @@ fn answer<R: Wait, C: Duplex>(
     requires { Belongs desk.now pass.old }
     ensures pass { Grows pass.old pass.new }
     ensures same { (pass.new.view.names ≡ pass.old.view.names) × (pass.new.view.stake ≡ pass.old.view.stake) }
-    ensures answered { IfNone result (Answers pass.old.view pass.new.view call.now
-        (told_by C.Source.left C.Sink.bytes C.Source.faults C.Sink.faults conn.old)
-        (told_by C.Source.left C.Sink.bytes C.Source.faults C.Sink.faults conn.new)) }
+    ensures answered { IfNone result (Answers pass.old.view pass.new.view call.now (C.told conn.old) (C.told conn.new)) }
     ensures end { IfSome result (λ end. AnswersNone (ending_of end pass.new.view.full) desk.now.terms.capacity
-        pass.old.view pass.new.view call.now
-        (told_by C.Source.left C.Sink.bytes C.Source.faults C.Sink.faults conn.old)
-        (told_by C.Source.left C.Sink.bytes C.Source.faults C.Sink.faults conn.new)) }
+        pass.old.view pass.new.view call.now (C.told conn.old) (C.told conn.new)) }
     ensures counted { IfNone result (CountsMore desk.now.terms.capacity pass.old.view pass.new.view) }
     ensures sound { Sound IsLegalFor pass.new.view }
 {
@@ -168,9 +150,7 @@ fn serve_commands<R: Wait, C: Duplex, E: Entropy>(
     ensures pass { Grows pass.old pass.new }
     ensures same { (pass.new.view.names ≡ pass.old.view.names) × (pass.new.view.stake ≡ pass.old.view.stake) }
     ensures served { ServedBy (own_name pass.old.view) connection desk.now.terms.capacity locality
-        (ending_of result pass.new.view.full) pass.old.view pass.new.view
-        (told_by C.Source.left C.Sink.bytes C.Source.faults C.Sink.faults conn.old)
-        (told_by C.Source.left C.Sink.bytes C.Source.faults C.Sink.faults conn.new)
+        (ending_of result pass.new.view.full) pass.old.view pass.new.view (C.told conn.old) (C.told conn.new)
         (E.words entropy.old) (E.words entropy.new) }
     ensures ticket { KeepsTicket (ending_of result pass.new.view.full) pass.old.view.full pass.new.view.full }
     ensures cause { HasEntropyCause (ending_of result pass.new.view.full) (E.faults entropy.old) (E.faults entropy.new) }
@@ -219,10 +199,8 @@ pub fn serve_connection<R: Wait, C: Duplex, E: Entropy>(
 
     // Just the entries of this connection are made, and the connection is served by them.
     ensures made { MadeJust pass.old.view (entries_on pass.new.view connection) pass.new.view }
-    ensures served { Served desk.now.terms.capacity locality (entries_on pass.new.view connection)
-        (told_by C.Source.left C.Sink.bytes C.Source.faults C.Sink.faults conn.old)
-        (told_by C.Source.left C.Sink.bytes C.Source.faults C.Sink.faults conn.new)
-        (ending_of result pass.new.view.full) }
+    ensures served { Served desk.now.terms.capacity locality (entries_on pass.new.view connection) (C.told conn.old)
+        (C.told conn.new) (ending_of result pass.new.view.full) }
 
     // A connection that is told of a full journal leaves the pass full, and a full pass makes no entry.
     ensures ticket { KeepsTicket (ending_of result pass.new.view.full) pass.old.view.full pass.new.view.full }

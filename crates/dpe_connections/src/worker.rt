@@ -7,8 +7,7 @@ ghost use Rattle.dpe_io.specs.Told.{NoneWaits};
 ghost use Rattle.dpe_desk.specs.Passes.{Belongs, Grows, own_name};
 ghost use Rattle.dpe_desk.specs.Views.{Sound};
 ghost use Rattle.dpe_journal.specs.Shared.{IsLegalFor};
-ghost use Rattle.dpe_connections.specs.Conn.{told_by};
-ghost use Rattle.dpe_connections.specs.Drawn.{random_by};
+ghost use Rattle.dpe_io.specs.Tells.{random};
 ghost use Rattle.dpe_connections.specs.Endings.{ending_of, is_full, is_cut};
 ghost use Rattle.dpe_connections.specs.Passes.{history_of};
 ghost use Rattle.dpe_connections.specs.Workers.{IsFrom, ServesDoor};
@@ -94,10 +93,8 @@ fn serve_door<R: Wait, D: Door, E: Entropy>(
     ensures same { (pass.new.view.names ≡ pass.old.view.names) × (pass.new.view.stake ≡ pass.old.view.stake) }
     ensures sound { Sound IsLegalFor pass.new.view }
     ensures made { AllByRecursion (IsFrom (own_name pass.new.view) locality result.connections) (history_of pass.new.view.made) }
-    ensures served { ServesDoor
-        (told_by D.Conn.Source.left D.Conn.Sink.bytes D.Conn.Source.faults D.Conn.Sink.faults)
-        desk.now.terms.capacity locality result pass.new.view (D.lists door.old) (D.lists door.new)
-        (random_by E.words E.faults entropy.old) (random_by E.words E.faults entropy.new) }
+    ensures served { ServesDoor D.Conn.told desk.now.terms.capacity locality result pass.new.view (D.lists door.old)
+        (D.lists door.new) (random E.Entropy entropy.old) (random E.Entropy entropy.new) }
     ensures at_most { result.connections ≤ each }
     ensures all { result.connections < each → IsTrue result.door_failed ⊎ NoneWaits (D.lists door.new) }
     ensures door_failed { OnTrue result.door_failed (Rose (D.faults door.old) (D.faults door.new)) }
@@ -188,11 +185,9 @@ pub fn serve_worker<R: Wait, D: Door, E: Entropy>(
     ensures made { AllByRecursion
         (IsFrom (own_name worker.new.pass.view) worker.old.locality worker.new.tally.connections)
         (history_of worker.new.pass.view.made) }
-    ensures served { ServesDoor
-        (told_by D.Conn.Source.left D.Conn.Sink.bytes D.Conn.Source.faults D.Conn.Sink.faults)
-        desk.now.terms.capacity worker.old.locality worker.new.tally worker.new.pass.view
-        (D.lists worker.old.door) (D.lists worker.new.door)
-        (random_by E.words E.faults worker.old.entropy) (random_by E.words E.faults worker.new.entropy) }
+    ensures served { ServesDoor D.Conn.told desk.now.terms.capacity worker.old.locality worker.new.tally
+        worker.new.pass.view (D.lists worker.old.door) (D.lists worker.new.door) (random E.Entropy worker.old.entropy)
+        (random E.Entropy worker.new.entropy) }
 
     // It serves as many as it may, unless none waits or the door failed.
     ensures at_most { worker.new.tally.connections ≤ worker.old.each }

@@ -9,6 +9,20 @@ IfTold P None new = ⊤
 IfTold P (Some x) None = ⊥
 IfTold P (Some x) (Some y) = P x y
 
+-- ## Two-way objects
+
+-- A two-way object: the bytes left to read and those that were written, where it tells them; the counts of failed reads
+-- and of failed writes.
+pub record Told : Type 0 where
+  pub left : Option (List ℕ)
+  pub written : Option (List ℕ)
+  pub read_faults : ℕ
+  pub write_faults : ℕ
+
+-- no count changed
+abbrev pub KeepsCounts : Told → Told → Type 0
+KeepsCounts old new = (new.read_faults ≡ old.read_faults) × (new.write_faults ≡ old.write_faults)
+
 -- ## Words of an entropy
 
 -- the first of the words, and zeros where none is left

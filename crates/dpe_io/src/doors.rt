@@ -101,6 +101,15 @@ impl Sink for MemConn {
 impl Duplex for MemConn {
     ghost use Rattle.std.specs.Prelude.{refl};
 
+    ghost told = { λ c. record {
+        left = Some c.source.left;
+        written = Some c.sink.bytes;
+        read_faults = c.source.faults;
+        write_faults = c.sink.faults;
+    } };
+
+    ghost told_is = { λ _. refl };
+
     ghost beside_source = { λ _. refl };
 
     ghost beside_sink = { λ _. refl };

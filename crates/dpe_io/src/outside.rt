@@ -1,12 +1,22 @@
 ghost use Rattle.std.specs.Prelude.{◌≡◌, ℕ, ◌+◌, ◌≤◌, List, [], IfOk, IfSome, MatchResult, Option};
 ghost use Rattle.dpe_io.specs.Causes.{HasCause};
-ghost use Rattle.dpe_io.specs.Told.{Draws, Lists, GivesNext, CountsOut, ComesBack};
+ghost use Rattle.dpe_io.specs.Told.{Told, Draws, Lists, GivesNext, CountsOut, ComesBack};
 ghost use Rattle.dpe_io.specs.Told.{Kind, IsOpening, Returns, Placed, KeepsPlaces};
 
 use crate::traits::{Failed, Sink, Source};
 
 /// A source and a sink of one object. What stands beside each is the other: its bytes and its count of faults.
 pub trait Duplex: Source + Sink {
+    // what it tells in both directions
+    ghost told: { Self → Told };
+
+    ghost told_is: { (x : Self) → told x ≡ record {
+        left = Self.Source.left x;
+        written = Self.Sink.bytes x;
+        read_faults = Self.Source.faults x;
+        write_faults = Self.Sink.faults x;
+    } };
+
     ghost beside_source: { (x : Self) → Self.Source.beside x ≡ record { bytes = Self.Sink.bytes x; faults = Self.Sink.faults x } };
 
     ghost beside_sink: { (x : Self) → Self.Sink.beside x ≡ record { bytes = Self.Source.left x; faults = Self.Source.faults x } };
@@ -47,7 +57,7 @@ pub trait Door {
     fn next(&mut self) -> Result<Option<Self::Conn>, Failed>
         ensures gives { GivesNext (lists self.old) (lists self.new) result }
         ensures faultless { IfOk result (λ given. IfSome given (λ conn.
-            (Self.Conn.Source.faults conn ≡ 0) × (Self.Conn.Sink.faults conn ≡ 0))) }
+            ((Self.Conn.told conn).read_faults ≡ 0) × ((Self.Conn.told conn).write_faults ≡ 0))) }
         ensures out { CountsOut (out self.old) (out self.new) result }
         ensures cause { HasCause (faults self.old) (faults self.new) result };
 
@@ -192,7 +202,7 @@ pub trait Dock {
     fn link(&mut self, path: &str) -> Result<Self::Link, Failed>
         ensures opens { IsOpening (links self.old) (links self.new) result }
         ensures faultless { IfOk result (λ link.
-            (Self.Link.Source.faults link ≡ 0) × (Self.Link.Sink.faults link ≡ 0)) }
+            ((Self.Link.told link).read_faults ≡ 0) × ((Self.Link.told link).write_faults ≡ 0)) }
         ensures scripts { scripts self.new ≡ scripts self.old };
 
     /// Takes the script back.
@@ -205,7 +215,7 @@ pub trait Dock {
     /// Takes the link of this place back. Its count is that for reads and that for writes together.
     fn take_link(&mut self, place: u32, link: Self::Link)
         requires { 1 ≤ (links self.old).out }
-        ensures back { Returns (links self.old) (Self.Link.Source.faults link + Self.Link.Sink.faults link)
+        ensures back { Returns (links self.old) ((Self.Link.told link).read_faults + (Self.Link.told link).write_faults)
             link (links self.new) }
         ensures places { Placed (links self.old) place (links self.new) }
         ensures scripts { scripts self.new ≡ scripts self.old };

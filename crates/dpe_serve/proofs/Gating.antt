@@ -7,11 +7,13 @@ use Rattle.dpe_desk.specs.Entries.{made_by, times}
 use Rattle.dpe_desk.specs.Passes.{LaterCallers, own_name}
 use Rattle.dpe_model.specs.History.{Entry, entries_of_caller, entries_of_connection}
 use Rattle.dpe_journal.specs.Shared.{shared_from}
-use Rattle.dpe_connections.specs.Conn.{Conn}
+use Rattle.dpe_io.specs.Told.{Told}
 use Rattle.dpe_serve.specs.Crews.{BookDesk, Works, IsDone, IsWithin, Gathers, post_of}
-use Rattle.dpe_connections.specs.Drawn.{Random, Draws}
+use Rattle.dpe_io.specs.Tells.{Random}
+use Rattle.dpe_connections.specs.Drawn.{Draws}
 use Rattle.dpe_connections.specs.Endings.{is_told_full}
-use Rattle.dpe_serve.specs.Gates.{Entrance, Gate, AreGates, AreNames, ServedGate, IsServed, Serve}
+use Rattle.dpe_io.specs.Tells.{Entrance}
+use Rattle.dpe_serve.specs.Gates.{Gate, AreGates, AreNames, ServedGate, IsServed, Serve}
 use Rattle.dpe_connections.specs.Passes.{Seat, history_of, entries_on}
 use Rattle.dpe_connections.specs.Served.{Served}
 use Rattle.dpe_connections.specs.Workers.{Visit, IsFrom, AllServed, QuietOnceFull, ended}
@@ -26,7 +28,7 @@ use Rattle.dpe_connections.proofs.Working.{seen_is_made}
 -- ## Other entries that are the same
 
 module _ {C : Type 0} where
-  served_by_same : (tell : C → Conn) (capacity locality number : ℕ) (f g : ℕ → List Entry) (visits : List (Visit C)) → ((k : ℕ) → f k ≡ g k) → AllServed tell capacity locality f number visits → AllServed tell capacity locality g number visits
+  served_by_same : (tell : C → Told) (capacity locality number : ℕ) (f g : ℕ → List Entry) (visits : List (Visit C)) → ((k : ℕ) → f k ≡ g k) → AllServed tell capacity locality f number visits → AllServed tell capacity locality g number visits
   served_by_same tell capacity locality number f g [] same h = tt
   served_by_same tell capacity locality number f g (v ∷ vs) same h = (
     subst (λ (es : List Entry). Served capacity locality es (tell v.before) (tell v.after) v.ending) (same number) h.0,
@@ -67,7 +69,7 @@ module _ {D E C : Type 0} where
   gates_of (p ∷ ps) (w ∷ ws) = gate_of p w ∷ gates_of ps ws
 
   -- a worker over the history
-  by_history : (tell : C → Conn) (entrance : D → Entrance C) (random : E → Random) (desk : BookDesk) (v w : Worker D E C) (H : List Entry) (pass : Seat) (idle : ℕ) (names : List ℕ)
+  by_history : (tell : C → Told) (entrance : D → Entrance C) (random : E → Random) (desk : BookDesk) (v w : Worker D E C) (H : List Entry) (pass : Seat) (idle : ℕ) (names : List ℕ)
       → Works tell entrance random desk v w → IsDone desk w → IsWithin pass w → Closes desk.terms.capacity idle names H pass
       → ServedGate tell desk.terms.capacity v.each H (own_name w.pass.view) v.locality w.tally (entrance v.door) (entrance w.door) (random v.entropy) (random w.entropy)
   by_history tell entrance random desk v w H pass idle names k d i closes =
@@ -101,7 +103,7 @@ module _ {D E C : Type 0} where
       }
 
   -- the same by its post
-  by_post : (tell : C → Conn) (entrance : D → Entrance C) (random : E → Random) (desk : BookDesk) (each : ℕ) (p : Post D E C) (w : Worker D E C) (H : List Entry) (pass : Seat) (idle : ℕ) (names : List ℕ)
+  by_post : (tell : C → Told) (entrance : D → Entrance C) (random : E → Random) (desk : BookDesk) (each : ℕ) (p : Post D E C) (w : Worker D E C) (H : List Entry) (pass : Seat) (idle : ℕ) (names : List ℕ)
       → Ran tell entrance random desk each p w → IsWithin pass w → Closes desk.terms.capacity idle names H pass
       → ServedGate tell desk.terms.capacity each H (own_name w.pass.view) p.locality w.tally (entrance p.door) (entrance w.door) (random p.entropy) (random w.entropy)
   by_post tell entrance random desk each p w H pass idle names r i closes =
@@ -116,7 +118,7 @@ module _ {D E C : Type 0} where
       (subst (λ (entropy : E). G v.each v.locality v.door entropy) h.entropy
       (by_history tell entrance random desk v w H pass idle names r.works (is_done tell entrance random desk each p w r) i closes))))
 
-  all_by_post : (tell : C → Conn) (entrance : D → Entrance C) (random : E → Random) (desk : BookDesk) (each : ℕ) (ps : List (Post D E C)) (ws : List (Worker D E C)) (H : List Entry) (pass : Seat) (idle : ℕ) (names : List ℕ)
+  all_by_post : (tell : C → Told) (entrance : D → Entrance C) (random : E → Random) (desk : BookDesk) (each : ℕ) (ps : List (Post D E C)) (ws : List (Worker D E C)) (H : List Entry) (pass : Seat) (idle : ℕ) (names : List ℕ)
       → AllZip (Ran tell entrance random desk each) ps ws → AllByRecursion (IsWithin pass) ws → Closes desk.terms.capacity idle names H pass
       → AllByRecursion (IsServed tell entrance random desk.terms.capacity each H) (gates_of ps ws)
   all_by_post tell entrance random desk each [] ws H pass idle names r i closes = tt
@@ -124,7 +126,7 @@ module _ {D E C : Type 0} where
   all_by_post tell entrance random desk each (p ∷ ps) (w ∷ ws) H pass idle names r i closes =
       (by_post tell entrance random desk each p w H pass idle names r.0 i.0 closes, all_by_post tell entrance random desk each ps ws H pass idle names r.1 i.1 closes)
 
-  are_gates : (tell : C → Conn) (entrance : D → Entrance C) (random : E → Random) (desk : BookDesk) (each : ℕ) (ps : List (Post D E C)) (ws : List (Worker D E C)) → AllZip (Ran tell entrance random desk each) ps ws
+  are_gates : (tell : C → Told) (entrance : D → Entrance C) (random : E → Random) (desk : BookDesk) (each : ℕ) (ps : List (Post D E C)) (ws : List (Worker D E C)) → AllZip (Ran tell entrance random desk each) ps ws
       → AreGates ps (map post_of ws) (gates_of ps ws)
   are_gates tell entrance random desk each [] [] r = record {
     localities = refl;
@@ -150,7 +152,7 @@ module _ {D E C : Type 0} where
         tallies = ap (λ (xs : List Tally). w.tally ∷ xs) h.tallies;
       }
 
-  gate_names : (tell : C → Conn) (entrance : D → Entrance C) (random : E → Random) (desk : BookDesk) (each : ℕ) (ps : List (Post D E C)) (ws : List (Worker D E C)) → AllZip (Ran tell entrance random desk each) ps ws
+  gate_names : (tell : C → Told) (entrance : D → Entrance C) (random : E → Random) (desk : BookDesk) (each : ℕ) (ps : List (Post D E C)) (ws : List (Worker D E C)) → AllZip (Ran tell entrance random desk each) ps ws
       → map (λ (g : Gate D E). g.name) (gates_of ps ws) ≡ map (λ (w : Worker D E C). own_name w.pass.view) ws
   gate_names tell entrance random desk each [] [] r = refl
   gate_names tell entrance random desk each [] (w ∷ ws) r = absurd r
@@ -158,7 +160,7 @@ module _ {D E C : Type 0} where
   gate_names tell entrance random desk each (p ∷ ps) (w ∷ ws) r = ap (λ (ns : List ℕ). own_name w.pass.view ∷ ns) (gate_names tell entrance random desk each ps ws r.1)
 
   -- all workers over the history
-  pub serve_as_one : (tell : C → Conn) (entrance : D → Entrance C) (random : E → Random) (desk : BookDesk) (each : ℕ) (before after : List (Post D E C)) (ws : List (Worker D E C)) (H : List Entry) (pass : Seat) (idle : ℕ)
+  pub serve_as_one : (tell : C → Told) (entrance : D → Entrance C) (random : E → Random) (desk : BookDesk) (each : ℕ) (before after : List (Post D E C)) (ws : List (Worker D E C)) (H : List Entry) (pass : Seat) (idle : ℕ)
       → AllZip (Ran tell entrance random desk each) before ws → after ≡ map post_of ws → AllByRecursion (IsWithin pass) ws
       → Closes desk.terms.capacity idle (map (λ (w : Worker D E C). own_name w.pass.view) ws) H pass → Serve tell entrance random desk.terms.capacity each H before after
   serve_as_one tell entrance random desk each before after ws H pass idle ran left within closes =

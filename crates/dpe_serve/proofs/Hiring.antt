@@ -5,10 +5,10 @@ use Rattle.std.proofs.Math.Seq.{take-append_seam}
 use Rattle.std.specs.List.{AllByRecursion, AllZip}
 use Rattle.dpe_desk.specs.Passes.{own_name, first_of}
 use Rattle.dpe_desk.specs.Plays.{given}
-use Rattle.dpe_connections.specs.Conn.{Conn}
+use Rattle.dpe_io.specs.Told.{Told}
 use Rattle.dpe_serve.specs.Crews.{BookDesk, IsReady, IsHired, Works, IsDone}
-use Rattle.dpe_connections.specs.Drawn.{Random}
-use Rattle.dpe_serve.specs.Gates.{Entrance}
+use Rattle.dpe_io.specs.Tells.{Random}
+use Rattle.dpe_io.specs.Tells.{Entrance}
 use Rattle.dpe_connections.specs.Passes.{Seat}
 use Rattle.dpe_serve.specs.declared.crew.Post.{Post}
 use Rattle.dpe_connections.specs.declared.worker.Worker.{Worker}
@@ -87,12 +87,12 @@ module _ {D E C : Type 0} where
   -- ## Working
 
   -- the worker was hired for this post, and served its door
-  pub record Ran (tell : C → Conn) (entrance : D → Entrance C) (random : E → Random) (desk : BookDesk) (each : ℕ) (p : Post D E C) (w : Worker D E C) : Type 0 where
+  pub record Ran (tell : C → Told) (entrance : D → Entrance C) (random : E → Random) (desk : BookDesk) (each : ℕ) (p : Post D E C) (w : Worker D E C) : Type 0 where
     pub before : Worker D E C
     pub hired : IsHired desk each p before
     pub works : Works tell entrance random desk before w
 
-  pub all_ran : (tell : C → Conn) (entrance : D → Entrance C) (random : E → Random) (desk : BookDesk) (each : ℕ) (ps : List (Post D E C)) (vs ws : List (Worker D E C)) → AllZip (IsHired desk each) ps vs
+  pub all_ran : (tell : C → Told) (entrance : D → Entrance C) (random : E → Random) (desk : BookDesk) (each : ℕ) (ps : List (Post D E C)) (vs ws : List (Worker D E C)) → AllZip (IsHired desk each) ps vs
       → AllZip (Works tell entrance random desk) vs ws → AllZip (Ran tell entrance random desk each) ps ws
   all_ran tell entrance random desk each [] [] [] h k = tt
   all_ran tell entrance random desk each [] [] (w ∷ ws) h k = absurd k
@@ -101,7 +101,7 @@ module _ {D E C : Type 0} where
   all_ran tell entrance random desk each (p ∷ ps) (v ∷ vs) [] h k = absurd k
   all_ran tell entrance random desk each (p ∷ ps) (v ∷ vs) (w ∷ ws) h k = (record { before = v; hired = h.0; works = k.0 }, all_ran tell entrance random desk each ps vs ws h.1 k.1)
 
-  pub is_done : (tell : C → Conn) (entrance : D → Entrance C) (random : E → Random) (desk : BookDesk) (each : ℕ) (p : Post D E C) (w : Worker D E C) → Ran tell entrance random desk each p w → IsDone desk w
+  pub is_done : (tell : C → Told) (entrance : D → Entrance C) (random : E → Random) (desk : BookDesk) (each : ℕ) (p : Post D E C) (w : Worker D E C) → Ran tell entrance random desk each p w → IsDone desk w
   is_done tell entrance random desk each p w r =
       let v = r.before in
       let k = r.works in
@@ -114,7 +114,7 @@ module _ {D E C : Type 0} where
         alone = made_alone (own_name w.pass.view) v.locality w.tally.connections w.pass.view.made k.made;
       }
 
-  pub all_done : (tell : C → Conn) (entrance : D → Entrance C) (random : E → Random) (desk : BookDesk) (each : ℕ) (ps : List (Post D E C)) (ws : List (Worker D E C)) → AllZip (Ran tell entrance random desk each) ps ws
+  pub all_done : (tell : C → Told) (entrance : D → Entrance C) (random : E → Random) (desk : BookDesk) (each : ℕ) (ps : List (Post D E C)) (ws : List (Worker D E C)) → AllZip (Ran tell entrance random desk each) ps ws
       → AllByRecursion (IsDone desk) ws
   all_done tell entrance random desk each [] [] h = tt
   all_done tell entrance random desk each [] (w ∷ ws) h = absurd h

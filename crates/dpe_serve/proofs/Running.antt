@@ -9,10 +9,11 @@ use Rattle.dpe_io.specs.Told.{Kind}
 use Rattle.dpe_journal.specs.BookViews.{BookView}
 use Rattle.dpe_model.specs.History.{Entry, Legal}
 use Rattle.dpe_model.specs.Laws.{FoldedInputs, HandleLaws}
-use Rattle.dpe_connections.specs.Conn.{Conn}
+use Rattle.dpe_io.specs.Told.{Told}
 use Rattle.dpe_serve.specs.Crews.{IsNear}
-use Rattle.dpe_connections.specs.Drawn.{Random}
-use Rattle.dpe_serve.specs.Gates.{Entrance, Gate, AreGates, OneHistory, Serve}
+use Rattle.dpe_io.specs.Tells.{Random}
+use Rattle.dpe_io.specs.Tells.{Entrance}
+use Rattle.dpe_serve.specs.Gates.{Gate, AreGates, OneHistory, Serve}
 use Rattle.dpe_serve.specs.Headline.{Tells, ServesDoors, Unopened}
 use Rattle.dpe_serve.specs.Headline.{IsOpened, any_failed, door_faults, entropy_faults}
 use Rattle.dpe_serve.specs.Lending.{OpensAll, ReturnsAll, PlacedFrom, HaveNoFault}
@@ -34,7 +35,7 @@ module _ {D E C : Type 0} where
   number_kept : (before after : List (Post D E C)) (gates : List (Gate D E)) → AreGates before after gates → length after ≡ length before
   number_kept before after gates are = sym (length-map after locality_of) ∙ (ap length are.kept ∙ length-map before locality_of)
 
-  pub serve_number : (tell : C → Conn) (entrance : D → Entrance C) (random : E → Random) (capacity each : ℕ) (H : List Entry) (before after : List (Post D E C))
+  pub serve_number : (tell : C → Told) (entrance : D → Entrance C) (random : E → Random) (capacity each : ℕ) (H : List Entry) (before after : List (Post D E C))
       → Serve tell entrance random capacity each H before after → length after ≡ length before
   serve_number tell entrance random capacity each H before after (gates, are, one) = number_kept before after gates are
 

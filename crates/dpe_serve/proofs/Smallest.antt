@@ -4,10 +4,11 @@ use Rattle.dpe_io.specs.Told.{all_unopened}
 use Rattle.dpe_journal.specs.Journal.{journal_bytes}
 use Rattle.dpe_model.specs.History.{Legal}
 use Rattle.dpe_model.specs.Laws.{FoldedInputs, HandleLaws}
-use Rattle.dpe_connections.specs.Conn.{Conn}
-use Rattle.dpe_connections.specs.Drawn.{Random}
+use Rattle.dpe_io.specs.Told.{Told}
+use Rattle.dpe_io.specs.Tells.{Random}
 use Rattle.dpe_connections.specs.Endings as endings
-use Rattle.dpe_serve.specs.Gates.{Entrance, Gate, OneHistory, ServedGate}
+use Rattle.dpe_io.specs.Tells.{Entrance}
+use Rattle.dpe_serve.specs.Gates.{Gate, OneHistory, ServedGate}
 use Rattle.dpe_serve.specs.Headline.{ServesOneHistory}
 use Rattle.dpe_serve.specs.Lending.{Lends, LendsAll, LendsOne, HaveFault}
 use Rattle.dpe_serve.specs.Seeds.{HasSeed}
@@ -61,10 +62,10 @@ read = record {
   bytes = λ bytes told. cc;
 }
 
-abbrev visit : Visit Conn
+abbrev visit : Visit Told
 visit = record { before = conn; after = conn; ending = endings.closed }
 
-abbrev gate : Gate (Entrance Conn) Random
+abbrev gate : Gate (Entrance Told) Random
 gate = record {
   name = 1;
   locality = 0;

@@ -11,9 +11,9 @@ use Rattle.dpe_desk.specs.Views.{Sound}
 use Rattle.dpe_journal.specs.BookViews.{BookView}
 use Rattle.dpe_journal.specs.Entries.{Sent}
 use Rattle.dpe_journal.specs.Shared.{IsLegalFor}
-use Rattle.dpe_connections.specs.Conn.{Conn}
-use Rattle.dpe_connections.specs.Drawn.{Random}
-use Rattle.dpe_serve.specs.Gates.{Entrance}
+use Rattle.dpe_io.specs.Told.{Told}
+use Rattle.dpe_io.specs.Tells.{Random}
+use Rattle.dpe_io.specs.Tells.{Entrance}
 use Rattle.dpe_connections.specs.Passes.{Seat, history_of}
 use Rattle.dpe_connections.specs.Workers.{IsFrom, ServesDoor}
 use Rattle.dpe_connections.specs.declared.worker.Tally.{Tally}
@@ -47,7 +47,7 @@ pub record IsHired {D E C : Type 0} (desk : BookDesk) (each : ℕ) (p : Post D E
   pub door : w.door ≡ p.door
   pub entropy : w.entropy ≡ p.entropy
 
-module _ {D E C : Type 0} (tell : C → Conn) (entrance : D → Entrance C) (random : E → Random) (desk : BookDesk) where
+module _ {D E C : Type 0} (tell : C → Told) (entrance : D → Entrance C) (random : E → Random) (desk : BookDesk) where
   -- the worker served its door
   pub record Works (v w : Worker D E C) : Type 0 where
     pub belongs : Belongs desk w.pass

@@ -5,21 +5,13 @@ use Rattle.std.specs.List.{AllByRecursion}
 use Rattle.dpe_io.specs.Causes.{Rose}
 use Rattle.dpe_io.specs.Told.{IfTold, Lists, NoneWaits}
 use Rattle.dpe_model.specs.History.{Entry, entries_of_caller, entries_of_connection}
-use Rattle.dpe_connections.specs.Conn.{Conn}
-use Rattle.dpe_connections.specs.Drawn.{Random, Draws}
+use Rattle.dpe_io.specs.Told.{Told}
+use Rattle.dpe_io.specs.Tells.{Random, Entrance}
+use Rattle.dpe_connections.specs.Drawn.{Draws}
 use Rattle.dpe_connections.specs.Endings.{is_told_full, is_full, is_cut, is_entropy_fault}
 use Rattle.dpe_connections.specs.Workers.{Visit, IsFrom, RoseBy, GoThrough, IsFaultless, AllServed, QuietOnceFull, ended}
 use Rattle.dpe_connections.specs.declared.worker.Tally.{Tally}
 use Rattle.dpe_serve.specs.declared.crew.Post.{Post}
-
--- what a door tells: its connections, where it tells them, its count of faults, and how many connections are out
-pub record Entrance (C : Type 0) : Type 0 where
-  pub lists : Option (Lists C)
-  pub faults : ℕ
-  pub out : ℕ
-
-abbrev pub entrance_by : {D C : Type 0} → (D → Option (Lists C)) → (D → ℕ) → (D → ℕ) → D → Entrance C
-entrance_by lists faults out x = record { lists = lists x; faults = faults x; out = out x }
 
 -- What became of a post: the name of its worker, its locality, its door and its entropy before and after, and the tally.
 pub record Gate (D E : Type 0) : Type 0 where
@@ -58,7 +50,7 @@ module _ {C : Type 0} (each : ℕ) (tally : Tally) (visits : List (Visit C)) whe
     pub door_kept : OnFalse tally.door_failed (after.faults ≡ before.faults)
     pub out : after.out ≡ before.out
 
-module _ {C : Type 0} (tell : C → Conn) (capacity each : ℕ) (H : List Entry) (name locality : ℕ) where
+module _ {C : Type 0} (tell : C → Told) (capacity each : ℕ) (H : List Entry) (name locality : ℕ) where
   -- A gate in a history: the worker of this name served its connections, each by the entries that the history has of it.
   pub record ServedGate (tally : Tally) (before after : Entrance C) (drawn_from drawn_to : Random) : Type 0 where
     -- the endings in it are determined by what is seen of the connections (one_ending, in dpe_connections)
@@ -77,7 +69,7 @@ module _ {C : Type 0} (tell : C → Conn) (capacity each : ℕ) (H : List Entry)
     pub full_are : tally.full ≡ ended is_full visits
     pub cut_are : tally.cut ≡ ended is_cut visits
 
-module _ {D E C : Type 0} (tell : C → Conn) (entrance : D → Entrance C) (random : E → Random) where
+module _ {D E C : Type 0} (tell : C → Told) (entrance : D → Entrance C) (random : E → Random) where
   -- the worker of the gate served its connections
   abbrev pub IsServed : ℕ → ℕ → List Entry → Gate D E → Type 0
   IsServed capacity each H g =

@@ -4,12 +4,18 @@ use Rattle.std.specs.List.{AllByRecursion, list_any}
 use Rattle.std.specs.Io.KnownBytes.{Appends}
 use Rattle.dpe_io.specs.Causes.{Rose}
 use Rattle.dpe_io.specs.Told.{Kind, OpensNone}
+use Rattle.dpe_io.specs.declared.traits.Source as source
+use Rattle.dpe_io.specs.declared.traits.Sink as sink
+use Rattle.dpe_io.specs.declared.outside.House as house
+use Rattle.dpe_io.specs.declared.outside.Door as door
+use Rattle.dpe_io.specs.declared.outside.Entropy as entropy
 use Rattle.dpe_journal.specs.Journal.{journal_bytes}
 use Rattle.dpe_model.specs.History.{Entry, Legal}
 use Rattle.dpe_model.specs.Laws.{FoldedInputs, HandleLaws}
-use Rattle.dpe_connections.specs.Conn.{Conn}
-use Rattle.dpe_connections.specs.Drawn.{Random}
-use Rattle.dpe_serve.specs.Gates.{Entrance, Gate, OneHistory}
+use Rattle.dpe_io.specs.Told.{Told}
+use Rattle.dpe_io.specs.Tells.{Random, random}
+use Rattle.dpe_io.specs.Tells.{Entrance, entrance}
+use Rattle.dpe_serve.specs.Gates.{Gate, OneHistory}
 use Rattle.dpe_serve.specs.Lending.{LendsOne, LendsAll, LendsUntil}
 use Rattle.dpe_serve.specs.Seeds.{HasSeed, HasWrongSize, HasNoSeed}
 use Rattle.dpe_serve.specs.Setting.{Setting, ForSetting}
@@ -27,13 +33,12 @@ pub record HouseView (S D J E : Type 0) : Type 0 where
   pub seeds : Kind S
   pub service : ServiceView D J E
 
-abbrev pub service_by : {H D J E : Type 0} → (H → Kind D) → (H → Kind J) → (H → Kind E) → H → ServiceView D J E
-service_by doors journals entropies h = record { doors = doors h; journals = journals h; entropies = entropies h }
+abbrev pub service_by : {H S D J E C : Type 0} → house.Ghosts H S D J E C → H → ServiceView D J E
+service_by m h = record { doors = m.doors h; journals = m.journals h; entropies = m.entropies h }
 
 -- a house as it tells each kind
-abbrev pub house_by :
-    {H S D J E : Type 0} → (H → Kind S) → (H → Kind D) → (H → Kind J) → (H → Kind E) → H → HouseView S D J E
-house_by seeds doors journals entropies h = record { seeds = seeds h; service = service_by doors journals entropies h }
+abbrev pub house_by : {H S D J E C : Type 0} → house.Ghosts H S D J E C → H → HouseView S D J E
+house_by m h = record { seeds = m.seeds h; service = service_by m h }
 
 -- how the objects of a house tell: a seed its bytes, a journal what it got, and each its count of faults
 pub record Tells (S D J E C : Type 0) : Type 0 where
@@ -41,22 +46,21 @@ pub record Tells (S D J E C : Type 0) : Type 0 where
   pub read_faults : S → ℕ
   pub bytes : J → Option (List ℕ)
   pub write_faults : J → ℕ
-  pub conn : C → Conn
+  pub conn : C → Told
   pub entrance : D → Entrance C
   pub random : E → Random
 
-module _ {S D J E C : Type 0} (left : S → Option (List ℕ)) (read_faults : S → ℕ) where
-  abbrev pub tells_by :
-      (J → Option (List ℕ)) → (J → ℕ) → (C → Conn) → (D → Entrance C) → (E → Random) → Tells S D J E C
-  tells_by bytes write_faults conn entrance random = record {
-    left = left;
-    read_faults = read_faults;
-    bytes = bytes;
-    write_faults = write_faults;
-    conn = conn;
-    entrance = entrance;
-    random = random;
-  }
+abbrev pub tells_by :
+    {S D J E C : Type 0} → source.Ghosts S → sink.Ghosts J → (C → Told) → door.Ghosts D C → entropy.Ghosts E → Tells S D J E C
+tells_by seed journal conn door_ways entropy_ways = record {
+  left = seed.left;
+  read_faults = seed.faults;
+  bytes = journal.bytes;
+  write_faults = journal.faults;
+  conn = conn;
+  entrance = entrance door_ways;
+  random = random entropy_ways;
+}
 
 module _ {D J E : Type 0} where
   -- nothing but the seed was opened

@@ -1,7 +1,7 @@
 -- How the doors and entropies of the posts are opened.
 use Rattle.std.specs.Prelude.{ℕ, ◌≡◌, false, List, [], ◌∷◌, ◌++◌, map, Option, Some, None, IfSome}
 use Rattle.dpe_io.specs.Told.{Kind, Opens, OpensNone}
-use Rattle.dpe_serve.specs.Gates.{Entrance}
+use Rattle.dpe_io.specs.Tells.{Entrance}
 use Rattle.dpe_serve.specs.Lending.{OpensAll, OpensUntil}
 use Rattle.dpe_serve.specs.declared.crew.Post.{Post}
 

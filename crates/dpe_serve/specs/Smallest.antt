@@ -2,9 +2,9 @@
 use Rattle.std.specs.Prelude.{ℕ, List, [], ◌∷◌, replicate, codes, Some}
 use Rattle.dpe_io.specs.Told.{Kind, all_unopened}
 use Rattle.dpe_journal.specs.Journal.{journal_bytes}
-use Rattle.dpe_connections.specs.Conn.{Conn}
-use Rattle.dpe_connections.specs.Drawn.{Random}
-use Rattle.dpe_serve.specs.Gates.{Entrance}
+use Rattle.dpe_io.specs.Told.{Told}
+use Rattle.dpe_io.specs.Tells.{Random}
+use Rattle.dpe_io.specs.Tells.{Entrance}
 use Rattle.dpe_serve.specs.Headline.{HouseView, Tells, Headline}
 use Rattle.dpe_serve.specs.Setting.{Setting, words_of}
 use Rattle.dpe_serve.specs.Summary.{summary_text}
@@ -23,13 +23,13 @@ abbrev pub seed : List ℕ
 seed = replicate 32 0
 
 -- it has no bytes to read
-abbrev pub conn : Conn
+abbrev pub conn : Told
 conn = record { left = Some []; written = Some []; read_faults = 0; write_faults = 0 }
 
-abbrev pub opened : Entrance Conn
+abbrev pub opened : Entrance Told
 opened = record { lists = Some (record { waiting = conn ∷ []; ended = [] }); faults = 0; out = 0 }
 
-abbrev pub closed : Entrance Conn
+abbrev pub closed : Entrance Told
 closed = record { lists = Some (record { waiting = []; ended = conn ∷ [] }); faults = 0; out = 0 }
 
 abbrev pub entropy : Random
@@ -48,7 +48,7 @@ one_back places object = record {
 }
 
 -- Seeds and journals are their bytes; the others are what they tell.
-abbrev pub tells : Tells (List ℕ) (Entrance Conn) (List ℕ) Random Conn
+abbrev pub tells : Tells (List ℕ) (Entrance Told) (List ℕ) Random Told
 tells = record {
   left = λ bytes. Some bytes;
   read_faults = λ _. 0;
@@ -59,7 +59,7 @@ tells = record {
   random = λ e. e;
 }
 
-abbrev pub before : HouseView (List ℕ) (Entrance Conn) (List ℕ) Random
+abbrev pub before : HouseView (List ℕ) (Entrance Told) (List ℕ) Random
 before = record {
   seeds = all_unopened (seed ∷ []);
   service = record {
@@ -69,7 +69,7 @@ before = record {
   };
 }
 
-abbrev pub after : HouseView (List ℕ) (Entrance Conn) (List ℕ) Random
+abbrev pub after : HouseView (List ℕ) (Entrance Told) (List ℕ) Random
 after = record {
   seeds = one_back [] [];
   service = record {

@@ -7,10 +7,10 @@ ghost use Rattle.dpe_desk.specs.Plays.{given};
 ghost use Rattle.dpe_desk.specs.Views.{held};
 ghost use Rattle.dpe_model.specs.History.{Legal};
 ghost use Rattle.dpe_model.specs.Laws.{FoldedInputs, HandleLaws};
-ghost use Rattle.dpe_connections.specs.Conn.{told_by};
-ghost use Rattle.dpe_connections.specs.Drawn.{random_by};
+ghost use Rattle.dpe_io.specs.Tells.{random};
 ghost use Rattle.dpe_serve.specs.Crews.{IsReady, IsHired, Works, IsNear, IsDone, Joins, Gathers, post_of};
-ghost use Rattle.dpe_serve.specs.Gates.{entrance_by, Serve};
+ghost use Rattle.dpe_io.specs.Tells.{entrance};
+ghost use Rattle.dpe_serve.specs.Gates.{Serve};
 
 use dpe_connections::{Room, Tally, Worker, serve_worker};
 use dpe_desk::{Desk, Pass};
@@ -90,9 +90,7 @@ fn hire_all<D: Door, E: Entropy>(
 // Serves the door of a worker.
 fn work<R: Wait, D: Door, E: Entropy>(rt: &R, desk: &Desk<Book>, worker: &mut Worker<D, E>)
     requires { IsReady desk.now worker.old }
-    ensures { Works
-        (told_by D.Conn.Source.left D.Conn.Sink.bytes D.Conn.Source.faults D.Conn.Sink.faults)
-        (entrance_by D.lists D.faults D.out) (random_by E.words E.faults) desk.now worker.old worker.new }
+    ensures { Works D.Conn.told (entrance D.Door) (random E.Entropy) desk.now worker.old worker.new }
 {
     serve_worker(rt, desk, worker);
 }
@@ -106,9 +104,7 @@ fn work_all<R: Threads + Wait + Sync, D: Door + Send, E: Entropy + Send>(
 where
     D::Conn: Send,
     requires ready { All (IsReady desk.now) workers.old }
-    ensures { AllZip (Works
-        (told_by D.Conn.Source.left D.Conn.Sink.bytes D.Conn.Source.faults D.Conn.Sink.faults)
-        (entrance_by D.lists D.faults D.out) (random_by E.words E.faults) desk.now) workers.old workers.new }
+    ensures { AllZip (Works D.Conn.told (entrance D.Door) (random E.Entropy) desk.now) workers.old workers.new }
 {
     let threads = workers.len().max(1);
     thread::for_each_mut(
@@ -117,9 +113,7 @@ where
         threads,
         &|_: usize, worker: &mut Worker<D, E>|
             requires { IsReady desk.now worker.old }
-            ensures { Works
-                (told_by D.Conn.Source.left D.Conn.Sink.bytes D.Conn.Source.faults D.Conn.Sink.faults)
-                (entrance_by D.lists D.faults D.out) (random_by E.words E.faults) desk.entry.now worker.old worker.new }
+            ensures { Works D.Conn.told (entrance D.Door) (random E.Entropy) desk.entry.now worker.old worker.new }
         { work(rt, desk, worker) },
     );
 }
@@ -133,9 +127,8 @@ fn put_to_work<R: Threads + Wait + Sync, D: Door + Send, E: Entropy + Send>(
 where
     D::Conn: Send,
     requires ready { All (IsReady desk.now) workers.old.items }
-    ensures works { AllZip (Works
-        (told_by D.Conn.Source.left D.Conn.Sink.bytes D.Conn.Source.faults D.Conn.Sink.faults)
-        (entrance_by D.lists D.faults D.out) (random_by E.words E.faults) desk.now) workers.old.items workers.new.items }
+    ensures works { AllZip (Works D.Conn.told (entrance D.Door) (random E.Entropy) desk.now) workers.old.items
+        workers.new.items }
 {
     work_all(rt, desk, workers.as_mut_slice());
 }
@@ -225,10 +218,8 @@ where
     ensures handles { HandleLaws result.seed result.first result.history }
 
     // It is what the workers served: each entry is of one of them, and each connection has its own.
-    ensures served { Serve
-        (told_by D.Conn.Source.left D.Conn.Sink.bytes D.Conn.Source.faults D.Conn.Sink.faults)
-        (entrance_by D.lists D.faults D.out) (random_by E.words E.faults)
-        desk.terms.capacity each result.history posts.old.items posts.new.items }
+    ensures served { Serve D.Conn.told (entrance D.Door) (random E.Entropy) desk.terms.capacity each result.history
+        posts.old.items posts.new.items }
 {
     hire_all(&desk, &mut pass, posts, each, &mut workers);
     put_to_work(rt, &desk, &mut workers);

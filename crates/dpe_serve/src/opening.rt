@@ -1,7 +1,7 @@
 //! The doors and entropies of a house: opened in order, and handed back in order.
 ghost use Rattle.std.specs.Prelude.{◌≡◌, ◌+◌, ◌≤◌, ◌<◌, [], ◌∷◌, ◌++◌, length, map, IfOk, IfErr, OnOk, Some, None, vec_len, vec_capacity};
 ghost use Rattle.std.specs.List.{AllByRecursion};
-ghost use Rattle.dpe_serve.specs.Gates.{entrance_by};
+ghost use Rattle.dpe_io.specs.Tells.{entrance};
 ghost use Rattle.dpe_serve.specs.Lending.{ReturnsAll, PlacedFrom};
 ghost use Rattle.dpe_serve.specs.Openings.{OpensPost, OpensPosts, OpensNoPost, OpensNoPosts, IsNewPost, locality_of};
 ghost use Rattle.dpe_serve.specs.Setting.{texts};
@@ -19,7 +19,7 @@ fn open_post<H: House>(
     room: Room,
 ) -> Result<Post<H::Door, H::Entropy>, Option<H::Entropy>>
     ensures opens { IfOk result (OpensPost (H.doors house.old) (H.entropies house.old) (H.doors house.new) (H.entropies house.new)) }
-    ensures fresh { IfOk result (IsNewPost (entrance_by H.Door.lists H.Door.faults H.Door.out) H.Entropy.faults) }
+    ensures fresh { IfOk result (IsNewPost (entrance H.Door.Door) H.Entropy.faults) }
     ensures locality { IfOk result (λ post. post.locality ≡ word.entry.locality) }
     ensures fails { IfErr result (OpensNoPost H.Entropy.faults
         (H.doors house.old) (H.entropies house.old) (H.doors house.new) (H.entropies house.new)) }
@@ -59,7 +59,7 @@ pub(crate) fn open_posts<H: House>(
         (H.doors house.new) (H.entropies house.new)) }
     ensures fails { IfErr result (OpensNoPosts H.Entropy.faults (H.doors house.old) (H.entropies house.old) posts.new.items
         (H.doors house.new) (H.entropies house.new)) }
-    ensures fresh { AllByRecursion (IsNewPost (entrance_by H.Door.lists H.Door.faults H.Door.out) H.Entropy.faults) posts.new.items }
+    ensures fresh { AllByRecursion (IsNewPost (entrance H.Door.Door) H.Entropy.faults) posts.new.items }
     ensures localities { OnOk result (map locality_of posts.new.items ≡ map (λ w. (door_of w).locality) (texts words.now)) }
     ensures fewer { IfErr result (λ _. vec_len posts.new < length words.now) }
     ensures capacity { vec_capacity posts.new ≡ vec_capacity posts.old }

@@ -4,10 +4,9 @@ ghost use Rattle.std.specs.List.{AllByRecursion, list_any};
 ghost use Rattle.dpe_desk.specs.Passes.{Belongs, IsFresh};
 ghost use Rattle.dpe_model.specs.History.{Legal};
 ghost use Rattle.dpe_model.specs.Laws.{FoldedInputs, HandleLaws};
-ghost use Rattle.dpe_connections.specs.Conn.{told_by};
 ghost use Rattle.dpe_serve.specs.Crews.{IsNear};
-ghost use Rattle.dpe_connections.specs.Drawn.{random_by};
-ghost use Rattle.dpe_serve.specs.Gates.{entrance_by};
+ghost use Rattle.dpe_io.specs.Tells.{random};
+ghost use Rattle.dpe_io.specs.Tells.{entrance};
 ghost use Rattle.dpe_serve.specs.Headline.{house_by, service_by, tells_by, Headline, Stands};
 ghost use Rattle.dpe_serve.specs.Outcomes.{status_at, IsRead, IsStock, IsOpen, seed_of, ReturnsSpare, ReturnsPosts, Prints, RunsPosts};
 ghost use Rattle.dpe_serve.specs.Outcomes.{RunsDoors, RunsNone, Finishes, FinishesEmpty, EndsFrom, Ends};
@@ -192,12 +191,9 @@ where
     ensures most { length result.book.history ≤ stock.desk.terms.capacity }
     ensures folded { FoldedInputs result.book.seed result.book.first result.book.history }
     ensures handles { HandleLaws result.book.seed result.book.first result.book.history }
-    ensures runs { RunsPosts
-        (tells_by H.Seed.left H.Seed.faults H.Journal.bytes H.Journal.faults
-        (told_by H.Door.Conn.Source.left H.Door.Conn.Sink.bytes H.Door.Conn.Source.faults H.Door.Conn.Sink.faults)
-        (entrance_by H.Door.lists H.Door.faults H.Door.out) (random_by H.Entropy.words H.Entropy.faults))
-        stock.desk.terms.capacity each stock.posts.items (H.doors house.old) (H.doors house.new)
-        (H.entropies house.old) (H.entropies house.new) result }
+    ensures runs { RunsPosts (tells_by H.Seed.Source H.Journal.Sink H.Door.Conn.told H.Door.Door H.Entropy.Entropy)
+        stock.desk.terms.capacity each stock.posts.items (H.doors house.old) (H.doors house.new) (H.entropies house.old)
+        (H.entropies house.new) result }
     ensures seeds { H.seeds house.new ≡ H.seeds house.old }
     ensures journals { H.journals house.new ≡ H.journals house.old }
 {
@@ -277,17 +273,12 @@ where
     <H::Door as Door>::Conn: Send,
     requires read { IsRead setting }
     requires stock { IsStock setting stock }
-    ensures served { IfOk result (RunsDoors
-        (tells_by H.Seed.left H.Seed.faults H.Journal.bytes H.Journal.faults
-        (told_by H.Door.Conn.Source.left H.Door.Conn.Sink.bytes H.Door.Conn.Source.faults H.Door.Conn.Sink.faults)
-        (entrance_by H.Door.lists H.Door.faults H.Door.out) (random_by H.Entropy.words H.Entropy.faults))
-        (setting_of setting.entry) (seed_of stock) (H.doors house.old) (H.doors house.new)
+    ensures served { IfOk result (RunsDoors (tells_by H.Seed.Source H.Journal.Sink H.Door.Conn.told H.Door.Door
+        H.Entropy.Entropy) (setting_of setting.entry) (seed_of stock) (H.doors house.old) (H.doors house.new)
         (H.entropies house.old) (H.entropies house.new)) }
-    ensures unserved { IfErr result (RunsNone
-        (tells_by H.Seed.left H.Seed.faults H.Journal.bytes H.Journal.faults
-        (told_by H.Door.Conn.Source.left H.Door.Conn.Sink.bytes H.Door.Conn.Source.faults H.Door.Conn.Sink.faults)
-        (entrance_by H.Door.lists H.Door.faults H.Door.out) (random_by H.Entropy.words H.Entropy.faults))
-        (setting_of setting.entry) (H.doors house.old) (H.doors house.new) (H.entropies house.old) (H.entropies house.new)) }
+    ensures unserved { IfErr result (RunsNone (tells_by H.Seed.Source H.Journal.Sink H.Door.Conn.told H.Door.Door
+        H.Entropy.Entropy) (setting_of setting.entry) (H.doors house.old) (H.doors house.new) (H.entropies house.old)
+        (H.entropies house.new)) }
     ensures seeds { H.seeds house.new ≡ H.seeds house.old }
     ensures journals { H.journals house.new ≡ H.journals house.old }
 {
@@ -354,13 +345,9 @@ where
     H::Entropy: Send,
     <H::Door as Door>::Conn: Send,
     requires read { IsRead setting }
-    ensures ends { EndsFrom
-        (tells_by H.Seed.left H.Seed.faults H.Journal.bytes H.Journal.faults
-        (told_by H.Door.Conn.Source.left H.Door.Conn.Sink.bytes H.Door.Conn.Source.faults H.Door.Conn.Sink.faults)
-        (entrance_by H.Door.lists H.Door.faults H.Door.out) (random_by H.Entropy.words H.Entropy.faults))
-        (setting_of setting.entry) seed.now (O.bytes out.old) (O.bytes out.new)
-        (service_by H.doors H.journals H.entropies house.old)
-        (service_by H.doors H.journals H.entropies house.new) result }
+    ensures ends { EndsFrom (tells_by H.Seed.Source H.Journal.Sink H.Door.Conn.told H.Door.Door H.Entropy.Entropy)
+        (setting_of setting.entry) seed.now (O.bytes out.old) (O.bytes out.new) (service_by H.House house.old)
+        (service_by H.House house.new) result }
     ensures prints { Prints O.faults result out.old out.new }
     ensures seeds { H.seeds house.new ≡ H.seeds house.old }
 {
@@ -393,13 +380,9 @@ where
     H::Entropy: Send,
     <H::Door as Door>::Conn: Send,
     requires read { IsRead setting }
-    ensures ends { Ends
-        (tells_by H.Seed.left H.Seed.faults H.Journal.bytes H.Journal.faults
-        (told_by H.Door.Conn.Source.left H.Door.Conn.Sink.bytes H.Door.Conn.Source.faults H.Door.Conn.Sink.faults)
-        (entrance_by H.Door.lists H.Door.faults H.Door.out) (random_by H.Entropy.words H.Entropy.faults))
-        (setting_of setting.entry) (O.bytes out.old) (O.bytes out.new)
-        (house_by H.seeds H.doors H.journals H.entropies house.old)
-        (house_by H.seeds H.doors H.journals H.entropies house.new) result }
+    ensures ends { Ends (tells_by H.Seed.Source H.Journal.Sink H.Door.Conn.told H.Door.Door H.Entropy.Entropy)
+        (setting_of setting.entry) (O.bytes out.old) (O.bytes out.new) (house_by H.House house.old)
+        (house_by H.House house.new) result }
     ensures prints { Prints O.faults result out.old out.new }
 {
     match read_seed(house, setting.seed) {
@@ -432,35 +415,24 @@ where
     // 0, the headline: the journal is one legal history, of the workers' commands alone. Each connection was served by its
     // own entries of it; signatures, boxes and unsealed texts are computed from folded inputs; no spent handle is accepted
     // again; the random bytes are the words drawn; and the summary counts it.
-    ensures headline { result ≡ 0 → Headline
-        (tells_by H.Seed.left H.Seed.faults H.Journal.bytes H.Journal.faults
-        (told_by H.Door.Conn.Source.left H.Door.Conn.Sink.bytes H.Door.Conn.Source.faults H.Door.Conn.Sink.faults)
-        (entrance_by H.Door.lists H.Door.faults H.Door.out) (random_by H.Entropy.words H.Entropy.faults))
-        (texts words.now) (O.bytes out.old) (O.bytes out.new)
-        (house_by H.seeds H.doors H.journals H.entropies house.old)
-        (house_by H.seeds H.doors H.journals H.entropies house.new) }
+    ensures headline { result ≡ 0 → Headline (tells_by H.Seed.Source H.Journal.Sink H.Door.Conn.told H.Door.Door
+        H.Entropy.Entropy) (texts words.now) (O.bytes out.old) (O.bytes out.new) (house_by H.House house.old)
+        (house_by H.House house.new) }
 
     // What of it stands at each other status.
-    ensures stands { Stands
-        (tells_by H.Seed.left H.Seed.faults H.Journal.bytes H.Journal.faults
-        (told_by H.Door.Conn.Source.left H.Door.Conn.Sink.bytes H.Door.Conn.Source.faults H.Door.Conn.Sink.faults)
-        (entrance_by H.Door.lists H.Door.faults H.Door.out) (random_by H.Entropy.words H.Entropy.faults))
-        (texts words.now) result (O.bytes out.old) (O.bytes out.new)
-        (house_by H.seeds H.doors H.journals H.entropies house.old)
-        (house_by H.seeds H.doors H.journals H.entropies house.new) }
+    ensures stands { Stands (tells_by H.Seed.Source H.Journal.Sink H.Door.Conn.told H.Door.Door H.Entropy.Entropy)
+        (texts words.now) result (O.bytes out.old) (O.bytes out.new) (house_by H.House house.old)
+        (house_by H.House house.new) }
 
     // 4 to 7 come only where a count rose that may bring them; 0 and 7 only where no opening, seed, door or journal failed.
-    ensures cause { StatusCause result
-        (house_by H.seeds H.doors H.journals H.entropies house.old)
-        (house_by H.seeds H.doors H.journals H.entropies house.new) (O.faults out.old) (O.faults out.new) }
+    ensures cause { StatusCause result (house_by H.House house.old) (house_by H.House house.new) (O.faults out.old)
+        (O.faults out.new) }
     ensures silent { result ≢ 0 → result ≢ 7 → out.new ≡ out.old }
-    ensures handed_back { AllBack (house_by H.seeds H.doors H.journals H.entropies house.old)
-        (house_by H.seeds H.doors H.journals H.entropies house.new) }
+    ensures handed_back { AllBack (house_by H.House house.old) (house_by H.House house.new) }
 
     // Right words and no count that rose: the status is 0 or 3, or it is 8 where the seed hasn't 32 bytes.
-    ensures complete { Completes H.Seed.left (texts words.now) result
-        (house_by H.seeds H.doors H.journals H.entropies house.old)
-        (house_by H.seeds H.doors H.journals H.entropies house.new) (O.faults out.old) (O.faults out.new) }
+    ensures complete { Completes H.Seed.left (texts words.now) result (house_by H.House house.old)
+        (house_by H.House house.new) (O.faults out.old) (O.faults out.new) }
 {
     match read_words(words) {
         Some(setting) => run(rt, alloc, setting, house, out).status(),

@@ -115,6 +115,10 @@ impl Sink for UnixLink {
 impl Duplex for UnixLink {
     ghost use Rattle.std.specs.Prelude.{refl};
 
+    ghost told = { λ l. record { left = None; written = None; read_faults = l.reads; write_faults = l.writes } };
+
+    ghost told_is = { λ _. refl };
+
     ghost beside_source = { λ _. refl };
 
     ghost beside_sink = { λ _. refl };

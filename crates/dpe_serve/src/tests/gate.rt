@@ -86,7 +86,16 @@ impl<'a> Sink for Turn<'a> {
 }
 
 impl<'a> Duplex for Turn<'a> {
-    ghost use Rattle.std.specs.Prelude.{refl};
+    ghost use Rattle.std.specs.Prelude.{refl, None};
+
+    ghost told = { λ c. record {
+      left = None;
+      written = None;
+      read_faults = c.read_faults;
+      write_faults = c.write_faults;
+    } };
+
+    ghost told_is = { λ _. refl };
 
     ghost beside_source = { λ _. refl };
 

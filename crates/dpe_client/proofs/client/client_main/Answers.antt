@@ -1,5 +1,4 @@
 use Rattle.dpe_client.specs.Values.{texts}
-use Rattle.dpe_client.specs.Run.{told_by}
 use Rattle.dpe_client.proofs.Statuses.{Ran, at_done, at_no_memory, at_no_script, at_bad, at_bad_unopened, at_link, at_reply, at_unprinted, script_fault, link_fault, out_fault, script_kept, links_kept, out_kept, has_status, is_not_two, refused, complete, unanswered}
 use Rattle.dpe_client.proofs.client.client_main.Goals as goal
 
@@ -8,7 +7,7 @@ returns g c =
     let r : Ran g.row.D-File.Denot g.row.D-Link.Denot = record {
       left = g.D.File.Source.left;
       faults = g.D.File.Source.faults;
-      told = (told_by g.D.Link.Source.left g.D.Link.Sink.bytes g.D.Link.Source.faults g.D.Link.Sink.faults);
+      told = g.D.Link.Duplex.told;
       words = texts c.args.words.now;
       file_old = g.D.Dock.scripts c.args.dock.now;
       file_new = g.D.Dock.scripts c.run_words-end.new.dock;

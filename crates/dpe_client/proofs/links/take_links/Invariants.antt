@@ -1,13 +1,12 @@
 use Rattle.std.proofs.Common.{◌≡◌}
 use Rattle.std.specs.Vec.Iter.{into_iter_items, into_iter_len}
-use Rattle.dpe_client.specs.Run.{told_by}
 use Rattle.dpe_client.proofs.Opening.{IsTaking}
 use Rattle.dpe_client.proofs.links.take_links.Given as goal
 
 abbrev pub invariant-loop-link : goal.invariant-loop-link
 invariant-loop-link g l = record {
   taking :
-      IsTaking (told_by g.D.Link.Source.left g.D.Link.Sink.bytes g.D.Link.Source.faults g.D.Link.Sink.faults) l.fn.links.items (into_iter_items l.links) l.place
+      IsTaking g.D.Link.Duplex.told l.fn.links.items (into_iter_items l.links) l.place
       (g.D.Dock.links l.initial.dock) (g.D.Dock.links l.dock);
   scripts : g.D.Dock.scripts l.dock ≡ g.D.Dock.scripts l.initial.dock;
 }

@@ -2,7 +2,6 @@ use Rattle.std.proofs.Common.{◌≤◌, take, length, length-take, arith}
 use Rattle.dpe_client.specs.Acts.{act_of}
 use Rattle.dpe_client.specs.CodeScript.{line_of}
 use Rattle.dpe_client.specs.CodeValues.{values_of}
-use Rattle.dpe_client.specs.Run.{told_by}
 use Rattle.dpe_client.proofs.Asking.{unconcluded_all, unexchanged}
 use Rattle.dpe_client.proofs.run.ask.Goals as goal
 
@@ -10,13 +9,13 @@ pub returns-in-Ok-clause-fault : goal.returns-in-Ok-clause-fault
 returns-in-Ok-clause-fault g c =
     let few : length (take c.in-Ok.len c.exchange.new.room) ≤ 4096 = omega (arith, length-take c.in-Ok.len c.exchange.new.room) in
     unconcluded_all c.conclude.result (line_of c.args.line.now) (take c.in-Ok.len c.exchange.new.room) (take c.write_act-len.result c.write_act-len.new.room) (values_of c.args.values.now) _
-    (told_by g.L.Source.left g.L.Sink.bytes g.L.Source.faults g.L.Sink.faults c.args.link.now)
-    (told_by g.L.Source.left g.L.Sink.bytes g.L.Source.faults g.L.Sink.faults c.exchange.new.link)
+    (g.L.Duplex.told c.args.link.now)
+    (g.L.Duplex.told c.exchange.new.link)
     (g.O.Sink.bytes c.args.out.now) (g.O.Sink.bytes c.conclude.new.out) few c.write_act-len.ensures.written c.in-Ok.ensures.sent c.in-Ok.ensures.taken c.conclude.ensures.fault
 
 pub returns-in-Err-clause-fault : goal.returns-in-Err-clause-fault
 returns-in-Err-clause-fault g c =
     unexchanged c.in-Err.cause (line_of c.args.line.now) (take c.write_act-len.result c.write_act-len.new.room) (values_of c.args.values.now)
-    (told_by g.L.Source.left g.L.Sink.bytes g.L.Source.faults g.L.Sink.faults c.args.link.now)
-    (told_by g.L.Source.left g.L.Sink.bytes g.L.Source.faults g.L.Sink.faults c.exchange.new.link)
+    (g.L.Duplex.told c.args.link.now)
+    (g.L.Duplex.told c.exchange.new.link)
     (g.O.Sink.bytes c.args.out.now) c.write_act-len.ensures.written (c.in-Err.ensures.fault (act_of c.args.line.now.act))

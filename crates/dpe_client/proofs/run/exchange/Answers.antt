@@ -1,12 +1,11 @@
 use Rattle.std.proofs.Common.{take}
-use Rattle.dpe_client.specs.Run.{told_by}
 use Rattle.dpe_client.proofs.Asking.{unreceived_all}
 use Rattle.dpe_client.proofs.run.exchange.Goals as goal
 
 pub returns-in-Ok-clause-fault : goal.returns-in-Ok-clause-fault
 returns-in-Ok-clause-fault g c =
     unreceived_all c.receive.result (take c.args.len c.args.room.now)
-    (told_by g.L.Source.left g.L.Sink.bytes g.L.Source.faults g.L.Sink.faults c.args.link.now)
-    (told_by g.L.Source.left g.L.Sink.bytes g.L.Source.faults g.L.Sink.faults c.send.new.link)
-    (told_by g.L.Source.left g.L.Sink.bytes g.L.Source.faults g.L.Sink.faults c.receive.new.link)
+    (g.L.Duplex.told c.args.link.now)
+    (g.L.Duplex.told c.send.new.link)
+    (g.L.Duplex.told c.receive.new.link)
     c.in-Ok.ensures.ok c.send.ensures.left c.receive.ensures.bytes c.receive.ensures.fault

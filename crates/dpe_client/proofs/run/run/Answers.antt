@@ -2,7 +2,6 @@
 use Rattle.std.proofs.Common.{refl}
 use Rattle.dpe_client.specs.CodeScript.{lines_are}
 use Rattle.dpe_client.specs.CodeValues.{values_of}
-use Rattle.dpe_client.specs.Run.{told_by}
 use Rattle.dpe_client.proofs.Running.{running_start}
 use Rattle.dpe_client.proofs.Lines.{still_below, going_on, going_stops, going_caused, going_done}
 use Rattle.dpe_client.proofs.run.run.Goals as goal
@@ -10,7 +9,7 @@ use Rattle.dpe_client.proofs.run.run.Goals as goal
 pub loop-line-init : goal.loop-line-init
 loop-line-init g c = record {
   running =
-      running_start (told_by g.L.Source.left g.L.Sink.bytes g.L.Source.faults g.L.Sink.faults) (lines_are c.args.lines.now) c.args.links.now (g.O.Sink.bytes c.args.out.now)
+      running_start g.L.Duplex.told (lines_are c.args.lines.now) c.args.links.now (g.O.Sink.bytes c.args.out.now)
       (values_of c.args.values.now) c.requires.fresh;
   kept = λ k d lt. (refl, refl);
   out = refl;
@@ -21,7 +20,7 @@ loop-line-init g c = record {
 
 pub loop-line-preserved : goal.loop-line-preserved
 loop-line-preserved g c =
-    going_on (told_by g.L.Source.left g.L.Sink.bytes g.L.Source.faults g.L.Sink.faults) (lines_are c.args.lines.now) c.args.lines.now c.loop-line.line-index _
+    going_on g.L.Duplex.told (lines_are c.args.lines.now) c.args.lines.now c.loop-line.line-index _
     c.args.links.now c.loop-line.links c.ask_on.new.links (g.O.Sink.bytes c.args.out.now) (g.O.Sink.bytes c.loop-line.out) (g.O.Sink.bytes c.ask_on.new.out)
     (g.O.Sink.faults c.args.out.now) (g.O.Sink.faults c.loop-line.out) (g.O.Sink.faults c.ask_on.new.out) c.args.values.now c.loop-line.values c.ask_on.new.values
     c.loop-line-test.true c.loop-line.invariant (still_below _ _ _ (c.requires.link c.loop-line.line-index _ c.loop-line-test.true) c.loop-line.auto.links) c.ask_on.auto.links
@@ -29,7 +28,7 @@ loop-line-preserved g c =
 
 pub returns-in-Err-clause-stops : goal.returns-in-Err-clause-stops
 returns-in-Err-clause-stops g c =
-    going_stops (told_by g.L.Source.left g.L.Sink.bytes g.L.Source.faults g.L.Sink.faults) (lines_are c.args.lines.now) c.args.lines.now c.loop-line.line-index _
+    going_stops g.L.Duplex.told (lines_are c.args.lines.now) c.args.lines.now c.loop-line.line-index _
     c.args.links.now c.loop-line.links c.ask_on.new.links (g.O.Sink.bytes c.args.out.now) (g.O.Sink.bytes c.loop-line.out) (g.O.Sink.bytes c.ask_on.new.out)
     (g.O.Sink.faults c.args.out.now) (g.O.Sink.faults c.loop-line.out) (g.O.Sink.faults c.ask_on.new.out) c.args.values.now c.loop-line.values c.ask_on.new.values
     c.loop-line-test.true c.loop-line.invariant (still_below _ _ _ (c.requires.link c.loop-line.line-index _ c.loop-line-test.true) c.loop-line.auto.links) c.ask_on.auto.links
@@ -37,7 +36,7 @@ returns-in-Err-clause-stops g c =
 
 pub returns-in-Err-clause-cause : goal.returns-in-Err-clause-cause
 returns-in-Err-clause-cause g c =
-    going_caused (told_by g.L.Source.left g.L.Sink.bytes g.L.Source.faults g.L.Sink.faults) (lines_are c.args.lines.now) c.args.lines.now c.loop-line.line-index _
+    going_caused g.L.Duplex.told (lines_are c.args.lines.now) c.args.lines.now c.loop-line.line-index _
     c.args.links.now c.loop-line.links c.ask_on.new.links (g.O.Sink.bytes c.args.out.now) (g.O.Sink.bytes c.loop-line.out) (g.O.Sink.bytes c.ask_on.new.out)
     (g.O.Sink.faults c.args.out.now) (g.O.Sink.faults c.loop-line.out) (g.O.Sink.faults c.ask_on.new.out) c.args.values.now c.loop-line.values c.ask_on.new.values
     c.loop-line-test.true c.loop-line.invariant (still_below _ _ _ (c.requires.link c.loop-line.line-index _ c.loop-line-test.true) c.loop-line.auto.links) c.ask_on.auto.links
@@ -45,6 +44,6 @@ returns-in-Err-clause-cause g c =
 
 pub returns-clause-whole : goal.returns-clause-whole
 returns-clause-whole g c =
-    going_done (told_by g.L.Source.left g.L.Sink.bytes g.L.Source.faults g.L.Sink.faults) (lines_are c.args.lines.now) c.args.lines.now c.loop-line.line-index
+    going_done g.L.Duplex.told (lines_are c.args.lines.now) c.args.lines.now c.loop-line.line-index
     c.args.links.now c.loop-line.links (g.O.Sink.bytes c.args.out.now) (g.O.Sink.bytes c.loop-line.out)
     (g.O.Sink.faults c.args.out.now) (g.O.Sink.faults c.loop-line.out) c.args.values.now c.loop-line.values c.loop-line-test.false c.loop-line.invariant

@@ -4,4 +4,5 @@ use Rattle.dpe_client.proofs.run.send.Goals as goal
 
 pub returns-in-Err-clause-front : goal.returns-in-Err-clause-front
 returns-in-Err-clause-front g c =
-    front_of (g.L.Sink.bytes c.args.link.now) (g.L.Sink.bytes c.write_frame.new.sink) (frame c.args.payload.now) c.in-Err.field-0.written c.in-Err.ensures.fault.1
+    rw (g.met.L.Duplex.told_is c.args.link.now, g.met.L.Duplex.told_is c.write_frame.new.sink)
+    (front_of (g.L.Sink.bytes c.args.link.now) (g.L.Sink.bytes c.write_frame.new.sink) (frame c.args.payload.now) c.in-Err.field-0.written c.in-Err.ensures.fault.1)

@@ -1,6 +1,5 @@
 use Rattle.std.proofs.Common.{refl, ◌∙◌, take, arith}
 use Rattle.dpe_desk.specs.Passes.{own_name}
-use Rattle.dpe_connections.specs.Conn.{told_by}
 use Rattle.dpe_connections.specs.Endings.{ending_of}
 use Rattle.dpe_connections.proofs.Growing.{grows_self, grows_both, name_stays}
 use Rattle.dpe_connections.proofs.Serving.{serving_start, serving_more}
@@ -9,7 +8,7 @@ use Rattle.dpe_connections.proofs.connection.serve_commands.Goals as goal
 
 pub loop-len-init : goal.loop-len-init
 loop-len-init g c =
-    let told = told_by g.C.Source.left g.C.Sink.bytes g.C.Source.faults g.C.Sink.faults in
+    let told = g.C.Duplex.told in
     record {
       serving = serving_start (own_name c.args.pass.now.view) c.args.connection c.args.locality c.args.pass.now.view (told c.args.conn.now) (g.E.Entropy.words c.args.entropy.now);
       grows = grows_self c.args.pass.now;
@@ -23,14 +22,14 @@ loop-len-init g c =
 
 pub returns-in-Err-clause-served : goal.returns-in-Err-clause-served
 returns-in-Err-clause-served g c =
-    let told = told_by g.C.Source.left g.C.Sink.bytes g.C.Source.faults g.C.Sink.faults in
+    let told = g.C.Duplex.told in
     stopped_receiving (own_name c.args.pass.now.view) c.args.connection c.args.locality c.loop-len.index c.args.desk.now.terms.capacity c.args.pass.now.view c.loop-len.pass.view
     (told c.args.conn.now) (told c.loop-len.conn) (g.E.Entropy.words c.args.entropy.now) (g.E.Entropy.words c.loop-len.entropy) c.loop-len.invariant.serving
     (told c.receive.new.conn) c.in-Err.end (g.E.Entropy.words c.receive.new.entropy) c.in-Err.ensures.end c.in-Err.ensures.words
 
 pub loop-len-preserved : goal.loop-len-preserved
 loop-len-preserved g c =
-    let told = told_by g.C.Source.left g.C.Sink.bytes g.C.Source.faults g.C.Sink.faults in
+    let told = g.C.Duplex.told in
     let i = c.loop-len.invariant in
     record {
       serving =
@@ -49,7 +48,7 @@ loop-len-preserved g c =
 
 pub returns-in-Some-clause-served : goal.returns-in-Some-clause-served
 returns-in-Some-clause-served g c =
-    let told = told_by g.C.Source.left g.C.Sink.bytes g.C.Source.faults g.C.Sink.faults in
+    let told = g.C.Duplex.told in
     let i = c.loop-len.invariant in
     stops_answering (own_name c.args.pass.now.view) c.args.connection c.args.locality c.loop-len.index c.args.desk.now.terms.capacity c.args.pass.now.view c.loop-len.pass.view
     (told c.args.conn.now) (told c.loop-len.conn) (g.E.Entropy.words c.args.entropy.now) (g.E.Entropy.words c.loop-len.entropy) i.serving

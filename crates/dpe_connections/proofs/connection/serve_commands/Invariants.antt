@@ -2,14 +2,13 @@ use Rattle.std.proofs.Common.{◌≡◌, ◌≤◌, ◌-◌}
 use Rattle.dpe_desk.specs.Passes.{Grows, own_name}
 use Rattle.dpe_desk.specs.Views.{Sound}
 use Rattle.dpe_journal.specs.Shared.{IsLegalFor}
-use Rattle.dpe_connections.specs.Conn.{told_by}
 use Rattle.dpe_connections.proofs.Serving.{Serving}
 use Rattle.dpe_connections.proofs.connection.serve_commands.Given as goal
 
 -- so many commands were answered, each by one entry that the pass was told of
 abbrev pub invariant-loop-len : goal.invariant-loop-len
 invariant-loop-len g l =
-    let told = told_by g.C.Source.left g.C.Sink.bytes g.C.Source.faults g.C.Sink.faults in
+    let told = g.C.Duplex.told in
     record {
       serving : Serving (own_name l.initial.pass.view) l.connection l.locality l.index l.initial.pass.view l.pass.view
           (told l.initial.conn) (told l.conn) (g.E.Entropy.words l.initial.entropy) (g.E.Entropy.words l.entropy);

@@ -1,6 +1,5 @@
 use Rattle.std.proofs.Common.{◌≡◌, ◌≢◌, [], None, List}
 use Rattle.dpe_model.specs.History.{Entry}
-use Rattle.dpe_connections.specs.Conn.{told_by}
 use Rattle.dpe_connections.specs.Drawn.{Draws}
 use Rattle.dpe_connections.specs.Endings.{ending_of, words_more}
 use Rattle.dpe_connections.specs.Passes.{MadeJust}
@@ -10,7 +9,7 @@ use Rattle.dpe_connections.proofs.connection.serve_connection.Goals as goal
 
 pub returns-clause-made : goal.returns-clause-made
 returns-clause-made g c =
-    let told = told_by g.C.Source.left g.C.Sink.bytes g.C.Source.faults g.C.Sink.faults in
+    let told = g.C.Duplex.told in
     let v = c.args.pass.now.view in
     let w = c.serve_commands.new.pass.view in
     let ending = ending_of c.serve_commands.result w.full in
@@ -22,7 +21,7 @@ returns-clause-made g c =
 
 pub returns-clause-served : goal.returns-clause-served
 returns-clause-served g c =
-    let told = told_by g.C.Source.left g.C.Sink.bytes g.C.Source.faults g.C.Sink.faults in
+    let told = g.C.Duplex.told in
     let v = c.args.pass.now.view in
     let w = c.serve_commands.new.pass.view in
     let ending = ending_of c.serve_commands.result w.full in
@@ -34,7 +33,7 @@ returns-clause-served g c =
 
 pub returns-clause-quiet : goal.returns-clause-quiet
 returns-clause-quiet g c =
-    let told = told_by g.C.Source.left g.C.Sink.bytes g.C.Source.faults g.C.Sink.faults in
+    let told = g.C.Duplex.told in
     let v = c.args.pass.now.view in
     let w = c.serve_commands.new.pass.view in
     let ending = ending_of c.serve_commands.result w.full in
@@ -46,7 +45,7 @@ returns-clause-quiet g c =
 
 pub returns-clause-words : goal.returns-clause-words
 returns-clause-words g c =
-    let told = told_by g.C.Source.left g.C.Sink.bytes g.C.Source.faults g.C.Sink.faults in
+    let told = g.C.Duplex.told in
     let v = c.args.pass.now.view in
     let w = c.serve_commands.new.pass.view in
     let ending = ending_of c.serve_commands.result w.full in

@@ -2,8 +2,7 @@ use Rattle.std.proofs.Common.{ℕ, ◌+◌, ◌≤◌, Bool, true, false, cond, 
 use Rattle.dpe_desk.specs.Passes.{own_name}
 use Rattle.dpe_io.specs.Told.{Lists}
 use Rattle.std.specs.Prelude.{Option, None}
-use Rattle.dpe_connections.specs.Conn.{told_by}
-use Rattle.dpe_connections.specs.Drawn.{random_by}
+use Rattle.dpe_io.specs.Tells.{random}
 use Rattle.dpe_connections.specs.Endings.{ending_of, is_full, is_cut}
 use Rattle.dpe_connections.specs.Workers.{Visit, ServesDoor}
 use Rattle.dpe_connections.specs.declared.worker.Tally.{Tally}
@@ -19,7 +18,7 @@ one_at_most false = omega arith
 
 pub loop-tally-init : goal.loop-tally-init
 loop-tally-init g c =
-    let told = told_by g.D.Conn.Source.left g.D.Conn.Sink.bytes g.D.Conn.Source.faults g.D.Conn.Sink.faults in
+    let told = g.D.Conn.Duplex.told in
     rw c.new-tally.ensures record {
       working =
           working_start told c.args.desk.now.terms.capacity (own_name c.args.pass.now.view) c.args.locality c.args.pass.now.view (g.D.Door.lists c.args.door.now)
@@ -46,7 +45,7 @@ serve_connection-end-requires-clause-unused g c =
 
 pub loop-tally-preserved : goal.loop-tally-preserved
 loop-tally-preserved g c =
-    let told = told_by g.D.Conn.Source.left g.D.Conn.Sink.bytes g.D.Conn.Source.faults g.D.Conn.Sink.faults in
+    let told = g.D.Conn.Duplex.told in
     let i = c.loop-tally.invariant in
     let e = c.serve_connection-end.ensures in
     let w = c.loop-tally.pass.view in
@@ -98,8 +97,8 @@ loop-tally-preserved g c =
 
 pub returns-in-Ok-None-clause-served : goal.returns-in-Ok-None-clause-served
 returns-in-Ok-None-clause-served g c =
-    let told = told_by g.D.Conn.Source.left g.D.Conn.Sink.bytes g.D.Conn.Source.faults g.D.Conn.Sink.faults in
-    let random = random_by g.E.Entropy.words g.E.Entropy.faults in
+    let told = g.D.Conn.Duplex.told in
+    let random = random g.E.Entropy in
     let i = c.loop-tally.invariant in
     let gives = rw c.in-Ok-None.field-0-is at c.in-Ok-None.ensures.gives in
     subst (λ (lists : Option (Lists g.row.D-Conn.Denot)). ServesDoor told c.args.desk.now.terms.capacity c.args.locality c.loop-tally.tally c.loop-tally.pass.view (g.D.Door.lists c.args.door.now) lists
@@ -110,8 +109,8 @@ returns-in-Ok-None-clause-served g c =
 
 pub returns-in-Err-clause-served : goal.returns-in-Err-clause-served
 returns-in-Err-clause-served g c =
-    let told = told_by g.D.Conn.Source.left g.D.Conn.Sink.bytes g.D.Conn.Source.faults g.D.Conn.Sink.faults in
-    let random = random_by g.E.Entropy.words g.E.Entropy.faults in
+    let told = g.D.Conn.Duplex.told in
+    let random = random g.E.Entropy in
     let i = c.loop-tally.invariant in
     let tally : Tally = record c.loop-tally.tally { door_failed = true } in
     subst (λ (lists : Option (Lists g.row.D-Conn.Denot)). ServesDoor told c.args.desk.now.terms.capacity c.args.locality tally c.loop-tally.pass.view (g.D.Door.lists c.args.door.now) lists
@@ -122,8 +121,8 @@ returns-in-Err-clause-served g c =
 
 pub returns-clause-served : goal.returns-clause-served
 returns-clause-served g c =
-    let told = told_by g.D.Conn.Source.left g.D.Conn.Sink.bytes g.D.Conn.Source.faults g.D.Conn.Sink.faults in
-    let random = random_by g.E.Entropy.words g.E.Entropy.faults in
+    let told = g.D.Conn.Duplex.told in
+    let random = random g.E.Entropy in
     let i = c.loop-tally.invariant in
     working_done told c.args.desk.now.terms.capacity (own_name c.args.pass.now.view) c.args.locality c.loop-tally.tally c.loop-tally.pass.view (g.D.Door.lists c.args.door.now) (g.D.Door.lists c.loop-tally.door)
     (random c.args.entropy.now) (random c.loop-tally.entropy)

@@ -2,14 +2,13 @@ use Rattle.std.proofs.Common.{◌≡◌, ◌≤◌, ◌-◌, false}
 use Rattle.dpe_desk.specs.Passes.{Grows, own_name}
 use Rattle.dpe_desk.specs.Views.{Sound}
 use Rattle.dpe_journal.specs.Shared.{IsLegalFor}
-use Rattle.dpe_connections.specs.Conn.{told_by}
 use Rattle.dpe_connections.proofs.Working.{Working}
 use Rattle.dpe_connections.proofs.worker.serve_door.Given as goal
 
 -- the connections so far were served
 abbrev pub invariant-loop-tally : goal.invariant-loop-tally
 invariant-loop-tally g l =
-    let told = told_by g.D.Conn.Source.left g.D.Conn.Sink.bytes g.D.Conn.Source.faults g.D.Conn.Sink.faults in
+    let told = g.D.Conn.Duplex.told in
     record {
       working : Working told l.desk.terms.capacity (own_name l.initial.pass.view) l.locality l.tally.connections l.pass.view (g.D.Door.lists l.initial.door) (g.D.Door.lists l.door)
           (g.E.Entropy.words l.initial.entropy) (g.E.Entropy.words l.entropy) (g.E.Entropy.faults l.initial.entropy) (g.E.Entropy.faults l.entropy) l.tally.full l.tally.cut;

@@ -1,10 +1,9 @@
 use Rattle.std.proofs.Common.{◌≡◌, List, ap, sym, subst, arith, length, drop}
 use Rattle.std.specs.Prelude.{All}
 use Rattle.std.specs.List.{AllZip}
-use Rattle.dpe_connections.specs.Conn.{told_by}
 use Rattle.dpe_serve.specs.Crews.{IsReady, Works}
-use Rattle.dpe_connections.specs.Drawn.{random_by}
-use Rattle.dpe_serve.specs.Gates.{entrance_by}
+use Rattle.dpe_io.specs.Tells.{random}
+use Rattle.dpe_io.specs.Tells.{entrance}
 use Rattle.dpe_connections.specs.declared.worker.Worker.{Worker}
 use Rattle.dpe_serve.proofs.Hiring.{written_back, zip_length}
 use Rattle.dpe_serve.proofs.crew.put_to_work.Goals as goal
@@ -18,8 +17,8 @@ pub returns : goal.returns
 returns g c =
     let W = Worker g.row.D.Denot g.row.E.Denot g.row.D-Conn.Denot in
     let R : W → W → Type 0 =
-    Works (told_by g.D.Conn.Source.left g.D.Conn.Sink.bytes g.D.Conn.Source.faults g.D.Conn.Sink.faults)
-    (entrance_by g.D.Door.lists g.D.Door.faults g.D.Door.out) (random_by g.E.Entropy.words g.E.Entropy.faults) c.args.desk.now in
+    Works g.D.Conn.Duplex.told
+    (entrance g.D.Door) (random g.E.Entropy) c.args.desk.now in
     let vs = c.args.workers.now.items in
     let ws = c.work_all.new.workers in
     let worked = subst (λ (us : List W). AllZip R us ws) c.as_mut_slice.ensures.value c.work_all.ensures in

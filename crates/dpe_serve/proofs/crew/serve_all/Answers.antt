@@ -3,10 +3,9 @@ use Rattle.std.proofs.lemmas.List.{length-map}
 use Rattle.dpe_desk.specs.Passes.{LaterCallers, own_name}
 use Rattle.dpe_journal.specs.Shared.{Shared, shared_from}
 use Rattle.dpe_model.specs.History.{Entry, Legal}
-use Rattle.dpe_connections.specs.Conn.{told_by}
 use Rattle.dpe_serve.specs.Crews.{IsHired, Works}
-use Rattle.dpe_connections.specs.Drawn.{random_by}
-use Rattle.dpe_serve.specs.Gates.{entrance_by}
+use Rattle.dpe_io.specs.Tells.{random}
+use Rattle.dpe_io.specs.Tells.{entrance}
 use Rattle.dpe_connections.specs.Passes.{Seat}
 use Rattle.dpe_connections.specs.declared.worker.Worker.{Worker}
 use Rattle.dpe_serve.proofs.Gating.{serve_as_one, closes_of}
@@ -34,9 +33,9 @@ dismiss_all-requires-clause-first g c = ap (λ (v : Seat). v.made) c.hire_all.en
 pub dismiss_all-requires-clause-workers : goal.dismiss_all-requires-clause-workers
 dismiss_all-requires-clause-workers g c =
     let W = Worker g.row.D.Denot g.row.E.Denot g.row.D-Conn.Denot in
-    let tell = told_by g.D.Conn.Source.left g.D.Conn.Sink.bytes g.D.Conn.Source.faults g.D.Conn.Sink.faults in
-    let entrance = entrance_by g.D.Door.lists g.D.Door.faults g.D.Door.out in
-    let random = random_by g.E.Entropy.words g.E.Entropy.faults in
+    let tell = g.D.Conn.Duplex.told in
+    let entrance = entrance g.D.Door in
+    let random = random g.E.Entropy in
     let desk = c.args.desk in
     let ws = c.put_to_work.new.workers.items in
     all_done tell entrance random desk c.args.each c.args.posts.now.items ws
@@ -45,9 +44,9 @@ dismiss_all-requires-clause-workers g c =
 pub close-requires-clause-all : goal.close-requires-clause-all
 close-requires-clause-all g c =
     let W = Worker g.row.D.Denot g.row.E.Denot g.row.D-Conn.Denot in
-    let tell = told_by g.D.Conn.Source.left g.D.Conn.Sink.bytes g.D.Conn.Source.faults g.D.Conn.Sink.faults in
-    let entrance = entrance_by g.D.Door.lists g.D.Door.faults g.D.Door.out in
-    let random = random_by g.E.Entropy.words g.E.Entropy.faults in
+    let tell = g.D.Conn.Duplex.told in
+    let entrance = entrance g.D.Door in
+    let random = random g.E.Entropy in
     let desk = c.args.desk in
     let ws = c.put_to_work.new.workers.items in
     let hired = ap (λ (v : Seat). v.stake) c.hire_all.ensures.pass.1 in
@@ -57,9 +56,9 @@ close-requires-clause-all g c =
 
 pub dismiss_all-requires-clause-room : goal.dismiss_all-requires-clause-room
 dismiss_all-requires-clause-room g c =
-    let tell = told_by g.D.Conn.Source.left g.D.Conn.Sink.bytes g.D.Conn.Source.faults g.D.Conn.Sink.faults in
-    let entrance = entrance_by g.D.Door.lists g.D.Door.faults g.D.Door.out in
-    let random = random_by g.E.Entropy.words g.E.Entropy.faults in
+    let tell = g.D.Conn.Duplex.told in
+    let entrance = entrance g.D.Door in
+    let random = random g.E.Entropy in
     let desk = c.args.desk in
     let ws = c.put_to_work.new.workers.items in
     let first = zip_length (IsHired desk c.args.each) c.args.posts.now.items c.hire_all.new.workers.items c.hire_all.ensures.workers in
@@ -86,9 +85,9 @@ returns-clause-handles g c =
 pub returns-clause-served : goal.returns-clause-served
 returns-clause-served g c =
     let W = Worker g.row.D.Denot g.row.E.Denot g.row.D-Conn.Denot in
-    let tell = told_by g.D.Conn.Source.left g.D.Conn.Sink.bytes g.D.Conn.Source.faults g.D.Conn.Sink.faults in
-    let entrance = entrance_by g.D.Door.lists g.D.Door.faults g.D.Door.out in
-    let random = random_by g.E.Entropy.words g.E.Entropy.faults in
+    let tell = g.D.Conn.Duplex.told in
+    let entrance = entrance g.D.Door in
+    let random = random g.E.Entropy in
     let desk = c.args.desk in
     let each = c.args.each in
     let posts = c.args.posts.now.items in

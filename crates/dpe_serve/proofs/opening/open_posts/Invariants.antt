@@ -1,7 +1,7 @@
 use Rattle.std.proofs.Common.{◌≡◌, ◌≤◌, ◌+◌, length, take, map, vec_len}
 use Rattle.std.specs.Prelude.{vec_capacity}
 use Rattle.std.specs.List.{AllByRecursion}
-use Rattle.dpe_serve.specs.Gates.{entrance_by}
+use Rattle.dpe_io.specs.Tells.{entrance}
 use Rattle.dpe_serve.specs.Openings.{OpensPosts, IsNewPost, locality_of}
 use Rattle.dpe_serve.proofs.Posting.{localities_of}
 use Rattle.dpe_serve.proofs.opening.open_posts.Given as goal
@@ -10,7 +10,7 @@ use Rattle.dpe_serve.proofs.opening.open_posts.Given as goal
 abbrev pub invariant-loop-word : goal.invariant-loop-word
 invariant-loop-word g l = record {
   opens : OpensPosts (g.H.House.doors l.initial.house) (g.H.House.entropies l.initial.house) l.posts.items (g.H.House.doors l.house) (g.H.House.entropies l.house);
-  fresh : AllByRecursion (IsNewPost (entrance_by g.H.Door.Door.lists g.H.Door.Door.faults g.H.Door.Door.out) g.H.Entropy.Entropy.faults) l.posts.items;
+  fresh : AllByRecursion (IsNewPost (entrance g.H.Door.Door) g.H.Entropy.Entropy.faults) l.posts.items;
   localities : map locality_of l.posts.items ≡ localities_of (take l.word-index l.words);
   number : vec_len l.posts ≡ l.word-index;
   rooms : length l.words ≤ vec_len l.rooms + l.word-index;

@@ -1,8 +1,7 @@
 use Rattle.std.proofs.Common.{ℕ, List, sym, subst}
 use Rattle.dpe_io.specs.Told.{Kind}
-use Rattle.dpe_connections.specs.Conn.{told_by}
-use Rattle.dpe_connections.specs.Drawn.{random_by}
-use Rattle.dpe_serve.specs.Gates.{entrance_by}
+use Rattle.dpe_io.specs.Tells.{random}
+use Rattle.dpe_io.specs.Tells.{entrance}
 use Rattle.dpe_serve.specs.Headline.{tells_by, service_by}
 use Rattle.dpe_serve.specs.Outcomes.{RunsDoors, RunsNone}
 use Rattle.dpe_serve.specs.Words.{setting_of}
@@ -11,10 +10,10 @@ use Rattle.dpe_serve.proofs.serve.serve.Goals as goal
 
 pub returns-in-Ok-serve_doors-clause-ends : goal.returns-in-Ok-serve_doors-clause-ends
 returns-in-Ok-serve_doors-clause-ends g c =
-    let told = told_by g.H.Door.Conn.Source.left g.H.Door.Conn.Sink.bytes g.H.Door.Conn.Source.faults g.H.Door.Conn.Sink.faults in
-    let entrance = entrance_by g.H.Door.Door.lists g.H.Door.Door.faults g.H.Door.Door.out in
-    let random = random_by g.H.Entropy.Entropy.words g.H.Entropy.Entropy.faults in
-    let tells = tells_by g.H.Seed.Source.left g.H.Seed.Source.faults g.H.Journal.Sink.bytes g.H.Journal.Sink.faults told entrance random in
+    let told = g.H.Door.Conn.Duplex.told in
+    let entrance = entrance g.H.Door.Door in
+    let random = random g.H.Entropy.Entropy in
+    let tells = tells_by g.H.Seed.Source g.H.Journal.Sink told g.H.Door.Door g.H.Entropy.Entropy in
     let s = setting_of c.args.setting in
     let seed = c.args.seed.now in
     let served = c.in-Ok-serve_doors.served in
@@ -24,7 +23,7 @@ returns-in-Ok-serve_doors-clause-ends g c =
     let entropies = g.H.House.entropies in
     let Runs = λ (d d' : Kind g.row.H-Door.Denot) (e e' : Kind g.row.H-Entropy.Denot). RunsDoors tells s seed d d' e e' served in
     ends_served tells s seed (g.O.Sink.bytes c.args.out.now) (g.O.Sink.bytes c.finish.new.out)
-    (service_by doors g.H.House.journals entropies c.args.house.now) (service_by doors g.H.House.journals entropies c.finish.new.house)
+    (service_by g.H.House c.args.house.now) (service_by g.H.House c.finish.new.house)
     (g.H.House.journals c.journal.new.self) (g.H.House.journals c.serve_doors.new.house) c.in-Ok-journal.journal opened.opens opened.faultless opened.empty c.serve_doors.ensures.journals served
     (moved Runs (doors c.journal.new.self) (doors c.args.house.now) (doors c.serve_doors.new.house) (doors c.finish.new.house)
     (entropies c.journal.new.self) (entropies c.args.house.now) (entropies c.serve_doors.new.house) (entropies c.finish.new.house)
@@ -35,10 +34,10 @@ returns-in-Ok-serve_doors-clause-ends g c =
 
 pub returns-in-Err-serve_doors-clause-ends : goal.returns-in-Err-serve_doors-clause-ends
 returns-in-Err-serve_doors-clause-ends g c =
-    let told = told_by g.H.Door.Conn.Source.left g.H.Door.Conn.Sink.bytes g.H.Door.Conn.Source.faults g.H.Door.Conn.Sink.faults in
-    let entrance = entrance_by g.H.Door.Door.lists g.H.Door.Door.faults g.H.Door.Door.out in
-    let random = random_by g.H.Entropy.Entropy.words g.H.Entropy.Entropy.faults in
-    let tells = tells_by g.H.Seed.Source.left g.H.Seed.Source.faults g.H.Journal.Sink.bytes g.H.Journal.Sink.faults told entrance random in
+    let told = g.H.Door.Conn.Duplex.told in
+    let entrance = entrance g.H.Door.Door in
+    let random = random g.H.Entropy.Entropy in
+    let tells = tells_by g.H.Seed.Source g.H.Journal.Sink told g.H.Door.Door g.H.Entropy.Entropy in
     let s = setting_of c.args.setting in
     let book = c.in-Err-serve_doors.book in
     let opened = c.in-Ok-journal.ensures in
@@ -47,7 +46,7 @@ returns-in-Err-serve_doors-clause-ends g c =
     let entropies = g.H.House.entropies in
     let Runs = λ (d d' : Kind g.row.H-Door.Denot) (e e' : Kind g.row.H-Entropy.Denot). RunsNone tells s d d' e e' book in
     ends_unserved tells s c.args.seed.now (g.O.Sink.bytes c.args.out.now) (g.O.Sink.bytes c.args.out.now)
-    (service_by doors g.H.House.journals entropies c.args.house.now) (service_by doors g.H.House.journals entropies c.finish_empty.new.house)
+    (service_by g.H.House c.args.house.now) (service_by g.H.House c.finish_empty.new.house)
     (g.H.House.journals c.journal.new.self) (g.H.House.journals c.serve_doors.new.house) c.in-Ok-journal.journal opened.opens opened.faultless opened.empty c.serve_doors.ensures.journals book
     (moved Runs (doors c.journal.new.self) (doors c.args.house.now) (doors c.serve_doors.new.house) (doors c.finish_empty.new.house)
     (entropies c.journal.new.self) (entropies c.args.house.now) (entropies c.serve_doors.new.house) (entropies c.finish_empty.new.house)

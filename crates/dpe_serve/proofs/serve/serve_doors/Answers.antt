@@ -1,7 +1,6 @@
 use Rattle.std.proofs.Common.{refl, arith}
-use Rattle.dpe_connections.specs.Conn.{told_by}
-use Rattle.dpe_connections.specs.Drawn.{random_by}
-use Rattle.dpe_serve.specs.Gates.{entrance_by}
+use Rattle.dpe_io.specs.Tells.{random}
+use Rattle.dpe_io.specs.Tells.{entrance}
 use Rattle.dpe_serve.specs.Headline.{tells_by}
 use Rattle.dpe_serve.specs.Setting.{texts}
 use Rattle.dpe_serve.specs.Words.{setting_of}
@@ -38,10 +37,10 @@ give_up-requires-clause-spare g c =
 
 pub returns-in-Ok-clause-served : goal.returns-in-Ok-clause-served
 returns-in-Ok-clause-served g c =
-    let told = told_by g.H.Door.Conn.Source.left g.H.Door.Conn.Sink.bytes g.H.Door.Conn.Source.faults g.H.Door.Conn.Sink.faults in
-    let entrance = entrance_by g.H.Door.Door.lists g.H.Door.Door.faults g.H.Door.Door.out in
-    let random = random_by g.H.Entropy.Entropy.words g.H.Entropy.Entropy.faults in
-    let tells = tells_by g.H.Seed.Source.left g.H.Seed.Source.faults g.H.Journal.Sink.bytes g.H.Journal.Sink.faults told entrance random in
+    let told = g.H.Door.Conn.Duplex.told in
+    let entrance = entrance g.H.Door.Door in
+    let random = random g.H.Entropy.Entropy in
+    let tells = tells_by g.H.Seed.Source g.H.Journal.Sink told g.H.Door.Door g.H.Entropy.Entropy in
     let posts = c.open_posts.new.posts in
     let s = c.requires.stock in
     let e = c.serve_posts.ensures in
@@ -52,10 +51,10 @@ returns-in-Ok-clause-served g c =
 
 pub returns-in-Err-clause-unserved : goal.returns-in-Err-clause-unserved
 returns-in-Err-clause-unserved g c =
-    let told = told_by g.H.Door.Conn.Source.left g.H.Door.Conn.Sink.bytes g.H.Door.Conn.Source.faults g.H.Door.Conn.Sink.faults in
-    let entrance = entrance_by g.H.Door.Door.lists g.H.Door.Door.faults g.H.Door.Door.out in
-    let random = random_by g.H.Entropy.Entropy.words g.H.Entropy.Entropy.faults in
-    let tells = tells_by g.H.Seed.Source.left g.H.Seed.Source.faults g.H.Journal.Sink.bytes g.H.Journal.Sink.faults told entrance random in
+    let told = g.H.Door.Conn.Duplex.told in
+    let entrance = entrance g.H.Door.Door in
+    let random = random g.H.Entropy.Entropy in
+    let tells = tells_by g.H.Seed.Source g.H.Journal.Sink told g.H.Door.Door g.H.Entropy.Entropy in
     let posts = c.open_posts.new.posts in
     let e = c.give_up.ensures in
     runs_none tells (setting_of c.args.setting) posts.items (g.H.House.doors c.args.house.now) (g.H.House.doors c.open_posts.new.house) (g.H.House.doors c.give_up.new.house)

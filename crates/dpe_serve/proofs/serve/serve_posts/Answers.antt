@@ -1,7 +1,6 @@
 use Rattle.std.proofs.Common.{List, ap, ◌∙◌, map, arith}
-use Rattle.dpe_connections.specs.Conn.{told_by}
-use Rattle.dpe_connections.specs.Drawn.{random_by}
-use Rattle.dpe_serve.specs.Gates.{entrance_by}
+use Rattle.dpe_io.specs.Tells.{random}
+use Rattle.dpe_io.specs.Tells.{entrance}
 use Rattle.dpe_serve.specs.Headline.{tells_by}
 use Rattle.dpe_serve.specs.Summary.{totals_of}
 use Rattle.dpe_serve.specs.declared.crew.Post.{Post}
@@ -10,9 +9,9 @@ use Rattle.dpe_serve.proofs.serve.serve_posts.Goals as goal
 
 pub add_up-totals-requires : goal.add_up-totals-requires
 add_up-totals-requires g c =
-    let told = told_by g.H.Door.Conn.Source.left g.H.Door.Conn.Sink.bytes g.H.Door.Conn.Source.faults g.H.Door.Conn.Sink.faults in
-    let entrance = entrance_by g.H.Door.Door.lists g.H.Door.Door.faults g.H.Door.Door.out in
-    let random = random_by g.H.Entropy.Entropy.words g.H.Entropy.Entropy.faults in
+    let told = g.H.Door.Conn.Duplex.told in
+    let entrance = entrance g.H.Door.Door in
+    let random = random g.H.Entropy.Entropy in
     let before = c.args.stock.posts in
     let after = c.serve_all-book.new.posts in
     let same = serve_number told entrance random c.args.stock.desk.terms.capacity c.args.each c.serve_all-book.result.history before.items after.items c.serve_all-book.ensures.served in
@@ -20,9 +19,9 @@ add_up-totals-requires g c =
 
 pub hand_back-requires-clause-few : goal.hand_back-requires-clause-few
 hand_back-requires-clause-few g c =
-    let told = told_by g.H.Door.Conn.Source.left g.H.Door.Conn.Sink.bytes g.H.Door.Conn.Source.faults g.H.Door.Conn.Sink.faults in
-    let entrance = entrance_by g.H.Door.Door.lists g.H.Door.Door.faults g.H.Door.Door.out in
-    let random = random_by g.H.Entropy.Entropy.words g.H.Entropy.Entropy.faults in
+    let told = g.H.Door.Conn.Duplex.told in
+    let entrance = entrance g.H.Door.Door in
+    let random = random g.H.Entropy.Entropy in
     let before = c.args.stock.posts in
     let after = c.serve_all-book.new.posts in
     let same = serve_number told entrance random c.args.stock.desk.terms.capacity c.args.each c.serve_all-book.result.history before.items after.items c.serve_all-book.ensures.served in
@@ -30,9 +29,9 @@ hand_back-requires-clause-few g c =
 
 pub hand_back-requires-clause-doors : goal.hand_back-requires-clause-doors
 hand_back-requires-clause-doors g c =
-    let told = told_by g.H.Door.Conn.Source.left g.H.Door.Conn.Sink.bytes g.H.Door.Conn.Source.faults g.H.Door.Conn.Sink.faults in
-    let entrance = entrance_by g.H.Door.Door.lists g.H.Door.Door.faults g.H.Door.Door.out in
-    let random = random_by g.H.Entropy.Entropy.words g.H.Entropy.Entropy.faults in
+    let told = g.H.Door.Conn.Duplex.told in
+    let entrance = entrance g.H.Door.Door in
+    let random = random g.H.Entropy.Entropy in
     let before = c.args.stock.posts in
     let after = c.serve_all-book.new.posts in
     let same = serve_number told entrance random c.args.stock.desk.terms.capacity c.args.each c.serve_all-book.result.history before.items after.items c.serve_all-book.ensures.served in
@@ -40,9 +39,9 @@ hand_back-requires-clause-doors g c =
 
 pub hand_back-requires-clause-entropies : goal.hand_back-requires-clause-entropies
 hand_back-requires-clause-entropies g c =
-    let told = told_by g.H.Door.Conn.Source.left g.H.Door.Conn.Sink.bytes g.H.Door.Conn.Source.faults g.H.Door.Conn.Sink.faults in
-    let entrance = entrance_by g.H.Door.Door.lists g.H.Door.Door.faults g.H.Door.Door.out in
-    let random = random_by g.H.Entropy.Entropy.words g.H.Entropy.Entropy.faults in
+    let told = g.H.Door.Conn.Duplex.told in
+    let entrance = entrance g.H.Door.Door in
+    let random = random g.H.Entropy.Entropy in
     let before = c.args.stock.posts in
     let after = c.serve_all-book.new.posts in
     let same = serve_number told entrance random c.args.stock.desk.terms.capacity c.args.each c.serve_all-book.result.history before.items after.items c.serve_all-book.ensures.served in
@@ -51,10 +50,10 @@ hand_back-requires-clause-entropies g c =
 pub returns-clause-runs : goal.returns-clause-runs
 returns-clause-runs g c =
     let P = Post g.row.H-Door.Denot g.row.H-Entropy.Denot g.row.H-Door-Conn.Denot in
-    let told = told_by g.H.Door.Conn.Source.left g.H.Door.Conn.Sink.bytes g.H.Door.Conn.Source.faults g.H.Door.Conn.Sink.faults in
-    let entrance = entrance_by g.H.Door.Door.lists g.H.Door.Door.faults g.H.Door.Door.out in
-    let random = random_by g.H.Entropy.Entropy.words g.H.Entropy.Entropy.faults in
-    let tells = tells_by g.H.Seed.Source.left g.H.Seed.Source.faults g.H.Journal.Sink.bytes g.H.Journal.Sink.faults told entrance random in
+    let told = g.H.Door.Conn.Duplex.told in
+    let entrance = entrance g.H.Door.Door in
+    let random = random g.H.Entropy.Entropy in
+    let tells = tells_by g.H.Seed.Source g.H.Journal.Sink told g.H.Door.Door g.H.Entropy.Entropy in
     let before = c.args.stock.posts in
     let after = c.serve_all-book.new.posts in
     let H = c.serve_all-book.result.history in
