@@ -1,7 +1,0 @@
-use Rattle.std.proofs.Common.{◌≡◌, drop}
-use Rattle.dpe_client.specs.Values.{texts}
-use Rattle.dpe_client.specs.Names.{is_among}
-use Rattle.dpe_client.proofs.names.is_among.Given as goal
-
-abbrev pub invariant-loop-other : goal.invariant-loop-other
-invariant-loop-other l = is_among (texts l.names) l.name ≡ is_among (texts (drop l.other-index l.names)) l.name

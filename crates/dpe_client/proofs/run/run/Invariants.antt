@@ -1,9 +1,0 @@
-use Rattle.std.proofs.Common.{drop}
-use Rattle.dpe_client.specs.CodeScript.{lines_are}
-use Rattle.dpe_client.proofs.Running.{IsGoing}
-use Rattle.dpe_client.proofs.run.run.Given as goal
-
-abbrev pub invariant-loop-line : goal.invariant-loop-line
-invariant-loop-line g l =
-    IsGoing g.L.Duplex.told (lines_are l.lines) (lines_are (drop l.line-index l.lines)) l.initial.links l.links
-    (g.O.Sink.bytes l.initial.out) (g.O.Sink.bytes l.out) (g.O.Sink.faults l.initial.out) (g.O.Sink.faults l.out) l.initial.values l.values

@@ -1,8 +1,0 @@
-use Rattle.std.proofs.Common.{◌≡◌, ◌+◌, ℕ, drop}
-use Rattle.std.specs.Option.{option_map}
-use Rattle.dpe_client.specs.Values.{texts}
-use Rattle.dpe_client.specs.CodeValues.{place_of}
-use Rattle.dpe_client.proofs.values.place.Given as goal
-
-abbrev pub invariant-loop-at : goal.invariant-loop-at
-invariant-loop-at l = place_of (texts l.names) l.name ≡ option_map (λ (k : ℕ). l.at + k) (place_of (texts (drop l.at l.names)) l.name)

@@ -1,0 +1,152 @@
+//! Writes the payload of a command line, its names taken for their values.
+ghost use Rattle.std.specs.Prelude.{◌≡◌, ◌≤◌, length, take, []};
+ghost use Rattle.dpe_messages.specs.Commands.{configuration_of};
+ghost use Rattle.dpe_messages.specs.CommandRows.{IsShort as IsConfigShort};
+ghost use Rattle.dpe_script.specs.Acts.{act_of, derive_line, sign_line, seal_line, unseal_line, IsInRange, IsDeriveInRange, IsShort, config_of, derive as a_derive, sign as a_sign, seal as a_seal, unseal as an_unseal, rotate, destroy};
+ghost use Rattle.dpe_script.specs.Meaning.{sent_payload};
+ghost use Rattle.dpe_script.specs.CodeValues.{values_of, HasShortBoxes};
+
+use crate::act::{Act, Config, Derive, Seal, Sign, Unseal};
+use crate::value::decode;
+use crate::values::Values;
+use dpe_messages::{Command, write_command};
+
+// The configuration, a descriptor being decoded into the room.
+fn config_in<'c>(config: &'c Config<'_>, room: &'c mut [u8; 1_024]) -> dpe_messages::Config<'c>
+    requires { IsShort (config_of config.now) }
+    ensures value { configuration_of result ≡ config_of config.now }
+    ensures short { IsConfigShort result }
+{
+    match config {
+        Config::Inline(input) => dpe_messages::Config::Inline(input),
+        Config::Descriptor(value) => {
+            let len = decode(value, room);
+            dpe_messages::Config::Descriptor(&room[..len])
+        }
+    }
+}
+
+fn write_derive(derive: &Derive<'_>, values: &Values<'_>, room: &mut [u8; 4096]) -> usize
+    requires { IsDeriveInRange (derive_line derive.now) }
+    ensures within { result ≤ 4096 }
+    ensures written { take result room.new ≡ sent_payload (values_of values.now) (a_derive (derive_line derive.now)) }
+{
+    let mut descriptor = [0; 1_024];
+    let config = config_in(&derive.config, &mut descriptor);
+    write_command(
+        &Command::Derive(dpe_messages::Derive {
+            handle: &values.handle(derive.old),
+            code: &derive.code,
+            config,
+            authority: &derive.authority,
+            mode: derive.mode,
+            hidden: derive.hidden.as_ref(),
+            retain: derive.keep.is_some(),
+            may_derive: !derive.is_final,
+            locality: derive.locality,
+        }),
+        room,
+    )
+}
+
+fn write_sign(sign: &Sign<'_>, values: &Values<'_>, room: &mut [u8; 4096]) -> usize
+    requires { IsInRange (a_sign (sign_line sign.now)) }
+    ensures within { result ≤ 4096 }
+    ensures written { take result room.new ≡ sent_payload (values_of values.now) (a_sign (sign_line sign.now)) }
+{
+    let mut label = [0; 64];
+    let label_len = decode(&sign.label, &mut label);
+    let mut message = [0; 2_048];
+    let message_len = decode(&sign.message, &mut message);
+    write_command(
+        &Command::Sign(dpe_messages::Sign {
+            handle: &values.handle(sign.old),
+            label: &label[..label_len],
+            retain: sign.keep.is_some(),
+            message: &message[..message_len],
+        }),
+        room,
+    )
+}
+
+fn write_seal(seal: &Seal<'_>, values: &Values<'_>, room: &mut [u8; 4096]) -> usize
+    requires { IsInRange (a_seal (seal_line seal.now)) }
+    ensures within { result ≤ 4096 }
+    ensures written { take result room.new ≡ sent_payload (values_of values.now) (a_seal (seal_line seal.now)) }
+{
+    let mut label = [0; 64];
+    let label_len = decode(&seal.label, &mut label);
+    let mut plain = [0; 2_048];
+    let plain_len = decode(&seal.plain, &mut plain);
+    write_command(
+        &Command::Seal(dpe_messages::Seal {
+            handle: &values.handle(seal.old),
+            label: &label[..label_len],
+            retain: seal.keep.is_some(),
+            localities: seal.localities,
+            modes: seal.modes,
+            plain: &plain[..plain_len],
+        }),
+        room,
+    )
+}
+
+fn write_unseal(unseal: &Unseal<'_>, values: &Values<'_>, room: &mut [u8; 4096]) -> usize
+    requires label { IsInRange (an_unseal (unseal_line unseal.now)) }
+    requires boxes { HasShortBoxes values.now }
+    ensures within { result ≤ 4096 }
+    ensures written { take result room.new ≡ sent_payload (values_of values.now) (an_unseal (unseal_line unseal.now)) }
+{
+    let mut label = [0; 64];
+    let label_len = decode(&unseal.label, &mut label);
+    write_command(
+        &Command::Unseal(dpe_messages::Unseal {
+            handle: &values.handle(unseal.old),
+            label: &label[..label_len],
+            retain: unseal.keep.is_some(),
+            sealed: values.sealed(unseal.sealed),
+        }),
+        room,
+    )
+}
+
+fn write_rotate(old: &[u8], values: &Values<'_>, room: &mut [u8; 4096]) -> usize
+    ensures within { result ≤ 4096 }
+    ensures written { take result room.new ≡ sent_payload (values_of values.now) (rotate old.now []) }
+{
+    write_command(&Command::Rotate(&values.handle(old)), room)
+}
+
+fn write_destroy(old: &[u8], recursive: bool, values: &Values<'_>, room: &mut [u8; 4096]) -> usize
+    ensures within { result ≤ 4096 }
+    ensures written { take result room.new ≡ sent_payload (values_of values.now) (destroy old.now recursive) }
+{
+    let handle = values.handle(old);
+    write_command(
+        &Command::Destroy {
+            handle: &handle,
+            recursive,
+        },
+        room,
+    )
+}
+
+/// Writes the payload of a command, and says how long it is.
+pub fn write_act(act: &Act<'_>, values: &Values<'_>, room: &mut [u8; 4096]) -> usize
+    requires range { IsInRange (act_of act.now) }
+    requires boxes { HasShortBoxes values.now }
+    ensures within { result ≤ 4096 }
+    ensures written { take result room.new ≡ sent_payload (values_of values.now) (act_of act.now) }
+{
+    match act {
+        Act::Profile => write_command(&Command::GetProfile, room),
+        Act::Initialize { .. } => write_command(&Command::Initialize, room),
+        Act::Derive(derive) => write_derive(derive, values, room),
+        Act::Sign(sign) => write_sign(sign, values, room),
+        Act::Seal(seal) => write_seal(seal, values, room),
+        Act::Unseal(unseal) => write_unseal(unseal, values, room),
+        Act::Rotate { old, .. } => write_rotate(old, values, room),
+        Act::Destroy { old, recursive } => write_destroy(old, *recursive, values, room),
+        Act::Raw(value) => decode(value, room),
+    }
+}
