@@ -1,5 +1,5 @@
 -- What unsealing and opening answer.
-use Rattle.std.specs.Prelude.{◌≡◌, ◌↔◌, ◌≤◌, ℕ, true, false, List, take, drop, Result, Ok, Err, IsErrOf, OnErr, IfOk}
+use Rattle.std.specs.Prelude.{◌≡◌, ◌↔◌, ◌≤◌, ℕ, Bool, true, false, List, take, drop, Result, Ok, Err, IsErrOf, OnErr, IfOk}
 use Rattle.dpe_box.specs.declared.policy.Policy.{Policy}
 use Rattle.dpe_box.specs.declared.sealing.Authentic.{Authentic}
 use Rattle.dpe_box.specs.declared.policy.Opened.{Opened}
@@ -7,7 +7,11 @@ use Rattle.dpe_box.specs.declared.policy.NotOpened.{NotOpened}
 use Rattle.dpe_box.specs.declared.policy.NotOpened.TheVariants as not_opened
 use Rattle.dpe_box.specs.declared.policy.Unopened.{Unopened}
 use Rattle.dpe_box.specs.declared.policy.Unopened.TheVariants as unopened
-use Rattle.dpe_box.specs.Sealed.{Opening, malformed, refused, opened_as, admits, has_form, has_tag, masks_of, keys_of}
+use Rattle.dpe_box.specs.Sealed.{Opening, malformed, refused, opened_as, admits, opened, has_form, has_tag, masks_of, keys_of}
+
+-- It is false exactly where opening these bytes, under any CDI and label, finds them malformed.
+abbrev pub MalformedExactly : Bool → List ℕ → Type 0
+MalformedExactly b sealed = (cdi label : List ℕ) → (b ≡ false) ↔ (opened cdi label sealed ≡ malformed)
 
 -- The box opens, and its masks don't admit.
 abbrev pub IsBarred : Opening → ℕ → ℕ → Type 0

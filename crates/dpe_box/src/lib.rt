@@ -8,4 +8,4 @@ mod sealing;
 mod tests;
 
 pub use policy::{NotOpened, Opened, Policy, Unopened};
-pub use sealing::{admits, open_box, opens_as_sealed, seal, unseal, unseals_as_sealed};
+pub use sealing::{admits, has_form, open_box, opens_as_sealed, seal, unseal, unseals_as_sealed};

@@ -2,7 +2,7 @@ ghost use Rattle.std.specs.Prelude.{◌≡◌, ◌≤◌, ◌<◌, ◌+◌, ◌+
 ghost use Rattle.std.specs.Str.{bytes_eq};
 ghost use Rattle.dpe_box.specs.Sealed.{keys as keys_for, ciphered, tag as tag_for, sealed_box, has_form as has_form_of, opened, admits as admits_of, has_bit as has_bit_of, masks_of, ciphertext_of, keys_of, before_tag, tag_of};
 ghost use Rattle.dpe_box.specs.Laws.{OpensAsSealed, UnsealsAsSealed};
-ghost use Rattle.dpe_box.specs.Unsealed.{Authenticates, Opens, Unseals, unopened_of};
+ghost use Rattle.dpe_box.specs.Unsealed.{Authenticates, MalformedExactly, Opens, Unseals, unopened_of};
 
 use crate::policy::{NotOpened, Opened, Policy, Unopened};
 use dpe_chacha::apply;
@@ -119,8 +119,11 @@ pub fn admits(policy: &Policy, locality: u8, mode: u8) -> bool
     has_bit(policy.localities, locality) && has_bit(policy.modes, mode)
 }
 
-fn has_form(sealed: &[u8]) -> bool
-    ensures { result ≡ has_form_of sealed.now }
+/// Whether bytes have the form of a box: its version, modes of at most 15, and a length of at most 2,048 that is
+/// theirs. These are the bytes that opening doesn't call malformed, under whatever CDI and label.
+pub fn has_form(sealed: &[u8]) -> bool
+    ensures form { result ≡ has_form_of sealed.now }
+    ensures exact { MalformedExactly result sealed.now }
 {
     if sealed.len() < 85 {
         return false;
