@@ -12,7 +12,7 @@ use Rattle.dpe_box.specs.declared.policy.Unopened.{Unopened}
 use Rattle.dpe_box.specs.declared.policy.Unopened.TheVariants as unopened
 use Rattle.dpe_box.specs.declared.sealing.Authentic.{Authentic}
 use Rattle.dpe_box.specs.Sealed.{ciphered, masks_of, length_of, ciphertext_of, keys_of, has_form, has_tag, has_bit, admits, sealed_box, Opening, malformed, refused, opened, opened_as}
-use Rattle.dpe_box.specs.Unsealed.{Authenticates, IsBarred, Opens, Unseals, unopened_of}
+use Rattle.dpe_box.specs.Unsealed.{Authenticates, MalformedExactly, IsBarred, Opens, Unseals, unopened_of}
 use Rattle.dpe_box.specs.Laws.{UnsealsAsSealed}
 use Rattle.dpe_box.proofs.BoxLemmas.{opens_as_sealed}
 
@@ -62,6 +62,17 @@ mal_not_opened masks text e = absurd (differ 0 2 (omega arith) (ap kind e))
 
 ref_not_opened : (masks : Policy) (text : List ℕ) → refused ≢ opened_as masks text
 ref_not_opened masks text e = absurd (differ 1 2 (omega arith) (ap kind e))
+
+malformed_by : (form same : Bool) (masks : Policy) (text : List ℕ) → by_tests form same masks text ≡ malformed → form ≡ false
+malformed_by false same masks text e = refl
+malformed_by true true masks text e = absurd (mal_not_opened masks text (sym e))
+malformed_by true false masks text e = absurd (mal_not_ref (sym e))
+
+pub malformed-exactly : (form : Bool) (b : List ℕ) → form ≡ has_form b → MalformedExactly form b
+malformed-exactly form b e cdi label = (
+  (λ h. opened-malformed cdi label b (sym e ∙ h)),
+  (λ h. e ∙ malformed_by (has_form b) (has_tag cdi label b) (masks_of b) (ciphered (keys_of cdi label b) (ciphertext_of b)) (sym (opened_by_tests cdi label b) ∙ h)),
+)
 
 abbrev masks_in : Opening → Policy → Policy
 masks_in malformed d = d

@@ -119,17 +119,24 @@ pub fn admits(policy: &Policy, locality: u8, mode: u8) -> bool
     has_bit(policy.localities, locality) && has_bit(policy.modes, mode)
 }
 
+// The version, the modes and the length that a box has.
+fn is_box(bytes: &[u8]) -> bool
+    ensures { result ≡ has_form_of bytes.now }
+{
+    if bytes.len() < 85 {
+        return false;
+    }
+    let len = u16::from_be_bytes([bytes[19], bytes[20]]);
+    bytes[0] == 1 && bytes[18] <= 15 && len <= 2048 && bytes.len() == 85 + usize::from(len)
+}
+
 /// Whether bytes have the form of a box: its version, modes of at most 15, and a length of at most 2,048 that is
-/// theirs. These are the bytes that opening doesn't call malformed, under whatever CDI and label.
+/// theirs. The others are those that opening calls malformed, under whatever CDI and label.
 pub fn has_form(sealed: &[u8]) -> bool
     ensures form { result ≡ has_form_of sealed.now }
     ensures exact { MalformedExactly result sealed.now }
 {
-    if sealed.len() < 85 {
-        return false;
-    }
-    let len = u16::from_be_bytes([sealed[19], sealed[20]]);
-    sealed[0] == 1 && sealed[18] <= 15 && len <= 2048 && sealed.len() == 85 + usize::from(len)
+    is_box(sealed)
 }
 
 // Whether the last 64 bytes, all of them, are the tag of what stands before them.
