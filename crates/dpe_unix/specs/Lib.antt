@@ -1,2 +1,4 @@
 pub mod Ahead
 pub mod Counts
+pub mod Ended
+pub mod Report

@@ -1,5 +1,5 @@
-//! The real outside: houses, shelves and docks over files, Unix sockets and `/dev/urandom`. They tell nothing of content;
-//! that the system does what std says of it is trusted.
+//! The real outside: houses, shelves and docks over files, Unix sockets and `/dev/urandom`, and how a program begins and
+//! ends. The objects tell nothing of content; that the system does what std says of it is trusted.
 #![tactic(auto)]
 
 mod ahead;
@@ -8,6 +8,8 @@ mod door;
 mod house;
 mod link;
 mod openings;
+mod program;
+mod report;
 mod shelf;
 #[cfg(test)]
 mod tests;
@@ -19,6 +21,8 @@ pub use dock::FileDock;
 pub use door::UnixDoor;
 pub use house::UnixHouse;
 pub use link::UnixLink;
+pub use program::run_program;
+pub use report::{Cause, Manual, tell};
 pub use shelf::FileShelf;
 pub use urandom::Urandom;
-pub use words::{NoStart, program_words};
+pub use words::NO_MEMORY;

@@ -1,10 +1,16 @@
-//! How a program begins.
+//! The words that a program is given.
 ghost use Rattle.std.specs.Prelude.{◌≡◌};
 ghost use Rattle.dpe_unix.specs.declared.words.NoStart.TheVariants.{FaultyWords, NoMemory};
 
 use std::alloc::{AllocError, AllocFailed};
 use std::rt::Env;
 use std::{env, io};
+
+/// The status of a program whose words aren't of its form.
+pub const FAULTY_WORDS: u8 = 2;
+
+/// The status of a program that lacks memory.
+pub const NO_MEMORY: u8 = 3;
 
 /// Why a program can't begin.
 #[derive(Clone, Copy, Debug, PartialEq, Eq)]
@@ -22,8 +28,8 @@ impl NoStart {
         ensures memory { self ≡ NoMemory → result ≡ 3 }
     {
         match self {
-            NoStart::FaultyWords => 2,
-            NoStart::NoMemory => 3,
+            NoStart::FaultyWords => FAULTY_WORDS,
+            NoStart::NoMemory => NO_MEMORY,
         }
     }
 }
