@@ -1,7 +1,7 @@
 #!/usr/bin/env python3
 """Measures the audit of a journal of 65,536 commands, nearly all of them Signs of 32 bytes, beside the batch program on the same commands.
 
-Run it at the top of the repository after `rt run` in crates/dpe_batch and crates/dpe_replay_cli. The journal is made here of
+Run it at the top of the repository after `rt run` in crates/dpe_batch and crates/dpe_replay. The journal is made here of
 the tape and of the batch program's replies. Times are the least of some runs, by what they use of a processor.
 """
 import os
@@ -13,7 +13,7 @@ import tempfile
 from batch import BATCH, ITEMS, write_tape
 from measuring import least
 
-AUDIT = "crates/dpe_replay_cli/out/dpe_replay_cli"
+AUDIT = "crates/dpe_replay/out/dpe_replay"
 ROUNDS = 7
 # Before a tape's frame: the locality and the random bytes.
 FRONT = 33
