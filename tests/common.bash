@@ -86,7 +86,7 @@ joined() {
 run() {
     local wanted=$1 name=$2 status=0 last=
     shift 2
-    timeout 60 "$bin/$name" "$@" >out 2>err || status=$?
+    timeout --foreground 60 "$bin/$name" "$@" >out 2>err || status=$?
     [ "$wanted" = 0 ] || last="$name: status $wanted"
     want "status of $name" "$wanted" "$status"
     want "last line of $name on standard error" "$last" "$(tail -n 1 err)"
