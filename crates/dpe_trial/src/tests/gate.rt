@@ -1,6 +1,7 @@
-//! Two workers that are served at once: each connection gives its second frame only after the other got its first reply.
-use super::{COMMAND, REPLY, run};
+// Two workers that are served at once: each connection gives its second frame only after the other got its first reply.
+use super::raw::{PROFILE as COMMAND, PROFILE_REPLY as REPLY};
 use dpe_io::{Door, Duplex, Failed, House, MemEntropy, MemHouse, MemSink, MemSource, Sink, Source};
+use dpe_serve::serve_main;
 use std::hint;
 use std::sync::atomic::{AtomicU32, Ordering};
 use std::test::*;
@@ -262,7 +263,7 @@ fn gate_two_workers(rt: HostRuntime) -> Result<(), Fail> {
     };
     let mut out = MemSink::new(alloc, 200, 200, &[])?;
     let words = ["s", "j", "1", "8", "1", "0:p", "0:q"];
-    let status = run(&rt, alloc, &words, &mut gates, &mut out);
+    let status = serve_main(&rt, alloc, &words, &mut gates, &mut out);
     let printed = "connections 2\ncommands 4\nrefused 0\nfull 0\ncut 0\n";
     assert_eq!(rt; (status, out.bytes()), (0, printed.as_bytes()));
     Ok(())
