@@ -1,9 +1,6 @@
 //! How a row writes bytes, and how an answer does.
 //!
-//! Bytes are pieces with `,` between them; `-` is none. A piece is an atom, hexadecimal digits or `$NAME`, and `ATOM*N` is
-//! the atom N times. `ATOM%ATOM*N` is N times the two atoms with four bytes between them, which count from 0, the first
-//! byte the greatest; `ATOM&ATOM*N` has eight hexadecimal digits there. `'` begins a text, up to the field's end, in which
-//! `\n` is a line feed.
+//! The README has the notation.
 use crate::row::Fault;
 use dpe_text::parse_number;
 use sha2::{Digest, Sha512};
@@ -22,14 +19,14 @@ pub struct Names {
 
 impl Names {
     /// No names.
-    pub fn new(alloc: Global) -> Names {
+    pub(crate) fn new(alloc: Global) -> Names {
         Names {
             entries: BTreeMap::new(alloc),
         }
     }
 
     /// Takes the name and the bytes of `NAME BYTES`.
-    pub fn define(&mut self, alloc: Global, text: &str) -> Result<(), Fault> {
+    pub(crate) fn define(&mut self, alloc: Global, text: &str) -> Result<(), Fault> {
         let Some((name, field)) = text.split_once(' ') else {
             return Err(Fault::Unreadable);
         };
@@ -47,7 +44,7 @@ impl Names {
     }
 
     /// A word: `-` is the empty one, and `$NAME` the text of a name.
-    pub fn word<'a>(&'a self, word: &'a str) -> Result<&'a str, Fault> {
+    pub(crate) fn word<'a>(&'a self, word: &'a str) -> Result<&'a str, Fault> {
         if word == "-" {
             return Ok("");
         }
@@ -62,7 +59,7 @@ impl Names {
 }
 
 /// A number in decimal digits.
-pub fn read_number(text: &str) -> Result<u64, Fault> {
+pub(crate) fn read_number(text: &str) -> Result<u64, Fault> {
     parse_number(text).ok_or(Fault::Unreadable)
 }
 
@@ -143,7 +140,7 @@ fn add_text(bytes: &mut Vec<u8>, text: &str) -> Result<(), AllocError> {
 }
 
 /// The bytes of a field.
-pub fn read_bytes(alloc: Global, names: &Names, field: &str) -> Result<Vec<u8>, Fault> {
+pub(crate) fn read_bytes(alloc: Global, names: &Names, field: &str) -> Result<Vec<u8>, Fault> {
     let mut bytes = Vec::new(alloc);
     if field == "-" {
         return Ok(bytes);
@@ -182,7 +179,7 @@ fn show_text(text: &mut String, bytes: &[u8]) -> Result<(), AllocError> {
 }
 
 /// Appends bytes as a row writes them, or their number and SHA-512 where they are many.
-pub fn show(alloc: Global, text: &mut String, bytes: &[u8]) -> Result<(), AllocError> {
+pub(crate) fn show(alloc: Global, text: &mut String, bytes: &[u8]) -> Result<(), AllocError> {
     if bytes.is_empty() {
         return text.push('-');
     }

@@ -31,7 +31,7 @@ pub struct Job<'a> {
 }
 
 // A source of these bytes, of which a read fails.
-pub fn source(
+pub(crate) fn source(
     alloc: Global,
     bytes: &[u8],
     options: &Options,
@@ -148,7 +148,7 @@ fn run_audit(alloc: Global, job: &Job<'_>, options: &Options) -> Result<Outcome,
 
 impl Job<'_> {
     /// Runs the program with these options.
-    pub fn run(&self, alloc: Global, options: Options) -> Result<Outcome, Fault> {
+    pub(crate) fn run(&self, alloc: Global, options: Options) -> Result<Outcome, Fault> {
         match self.program {
             Program::Batch => run_batch(alloc, self, &options),
             Program::Client => run_client(alloc, self, &options),

@@ -41,7 +41,7 @@ pub struct Options {
 
 impl Options {
     /// Nothing fails.
-    pub fn new() -> Options {
+    pub(crate) fn new() -> Options {
         Options {
             give: 64,
             take: 64,
@@ -56,7 +56,7 @@ impl Options {
     }
 
     /// The same where this call fails.
-    pub fn failing(mut self, call: Call, number: u32) -> Options {
+    pub(crate) fn failing(mut self, call: Call, number: u32) -> Options {
         match call {
             Call::Open => self.open = number,
             Call::First => self.first = number,
@@ -120,7 +120,7 @@ fn set(options: Options, name: &str, number: u64) -> Result<Options, Fault> {
 }
 
 /// The options of a field; `-` is none.
-pub fn read_options(field: &str) -> Result<Options, Fault> {
+pub(crate) fn read_options(field: &str) -> Result<Options, Fault> {
     let mut options = Options::new();
     if field == "-" {
         return Ok(options);

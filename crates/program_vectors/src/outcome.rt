@@ -14,7 +14,7 @@ pub struct Outcome {
 
 impl Outcome {
     /// As a line: the parts with `|` between them, without the paths where none was asked for.
-    pub fn shown(&self, alloc: Global) -> Result<String, AllocError> {
+    pub(crate) fn shown(&self, alloc: Global) -> Result<String, AllocError> {
         let mut text = format!(in alloc; "{} | ", self.status)?;
         show(alloc, &mut text, &self.output)?;
         if !self.paths.is_empty() {

@@ -21,7 +21,7 @@ fn show_item(alloc: Global, text: &mut String, item: &ItemBuffer) -> Result<(), 
 }
 
 /// The items that a source gives, what comes behind them, and the bytes that are left then.
-pub fn items_of(alloc: Global, options: Options, bytes: &[u8]) -> Result<String, Fault> {
+pub(crate) fn items_of(alloc: Global, options: Options, bytes: &[u8]) -> Result<String, Fault> {
     let mut source = source(alloc, bytes, &options, options.read)?;
     let mut item = ItemBuffer::new();
     let mut text = String::new(alloc);
@@ -65,7 +65,7 @@ fn show_script(alloc: Global, script: &Script<'_>) -> Result<String, AllocError>
 }
 
 /// The lines and names of a script for so many links, or its first bad line.
-pub fn lines_of(alloc: Global, links: &str, bytes: &[u8]) -> Result<String, Fault> {
+pub(crate) fn lines_of(alloc: Global, links: &str, bytes: &[u8]) -> Result<String, Fault> {
     let links = read_number(links)?;
     if links > 8 {
         return Err(Fault::Unreadable);

@@ -104,7 +104,7 @@ fn reading_of(
 }
 
 /// What is printed for a row; nothing where it names bytes for the rows below it.
-pub fn answer(alloc: Global, names: &mut Names, row: &str) -> Result<Option<String>, Fault> {
+pub(crate) fn answer(alloc: Global, names: &mut Names, row: &str) -> Result<Option<String>, Fault> {
     let Some((name, text)) = row.split_once(' ') else {
         return Err(Fault::Unreadable);
     };

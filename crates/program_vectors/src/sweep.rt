@@ -48,7 +48,7 @@ fn each(
 }
 
 /// What came of a row.
-pub fn outcomes(alloc: Global, job: &Job<'_>) -> Result<String, Fault> {
+pub(crate) fn outcomes(alloc: Global, job: &Job<'_>) -> Result<String, Fault> {
     let whole = job.run(alloc, job.options)?;
     match job.options.each {
         Some((call, count)) => each(alloc, job, &whole, call, count),
