@@ -129,7 +129,8 @@ enum dpe_status dpe_rotate(struct dpe *dpe, struct dpe_handle *handle);
 enum dpe_status dpe_destroy(struct dpe *dpe, struct dpe_handle *handle, bool recursively);
 
 /* What became of a command whose reply was lost, asked on a new connection to the same socket: DPE_OK where it wasn't
- * executed, and the handle is live; DPE_NO_SUCH_HANDLE where it was, and the handle is spent. Changes nothing at the server. */
+ * executed, and the handle is live; DPE_NO_SUCH_HANDLE where it was, and the handle is spent. It changes nothing at the
+ * server, but takes a place of its history. */
 enum dpe_status dpe_find_out(struct dpe *dpe, struct dpe_handle *handle);
 
 /* A word or two for a log. */
