@@ -38,6 +38,3 @@ fn main(rt: HostRuntime) -> io::Result<ExitCode> {
     println!(rt; "sum {}", object.sum())?;
     Ok(ExitCode::from(0))
 }
-
-#[cfg(test)]
-mod tests;

@@ -1,5 +1,5 @@
 //! A running sum: the object that the threads share here.
-ghost use Rattle.std.specs.Prelude.{◌≡◌, ℕ, ◌+◌, ◌-◌, ◌*◌, ◌<◌, ◌≤◌, [], ◌∷◌, ◌++◌, length, IfOk, take, vec_len, slice_get, Some};
+ghost use Rattle.std.specs.Prelude.{◌≡◌, ℕ, ◌+◌, ◌-◌, ◌*◌, ◌<◌, ◌≤◌, [], ◌∷◌, ◌++◌, length, IfOk, take, vec_len};
 ghost use Rattle.desk_bench.specs.Sums.{Sums, sum_of, IsRunningSum, sums_prefix};
 
 use dpe_desk::{Entry, Sequential};
@@ -44,14 +44,6 @@ impl RunningSum {
         ensures { result ≡ sum_of self.now.entries }
     {
         self.sum
-    }
-
-    /// The call at this place.
-    pub fn entry(&self, at: usize) -> &Entry<u32, u64>
-        requires { at < length self.now.entries }
-        ensures { slice_get self.now.entries at ≡ Some result.now }
-    {
-        &self.rows[at]
     }
 
     fn add(&mut self, caller: u32, call: u32) -> u64

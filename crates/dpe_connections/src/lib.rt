@@ -5,8 +5,6 @@
 mod connection;
 mod law;
 mod room;
-#[cfg(test)]
-mod tests;
 mod worker;
 
 pub use connection::{End, serve_connection};

@@ -12,8 +12,6 @@ mod fields;
 mod records;
 mod shared;
 mod storage;
-#[cfg(test)]
-mod tests;
 mod write;
 
 pub use book::Book;

@@ -9,8 +9,6 @@ mod seed;
 mod serve;
 mod setting;
 mod summary;
-#[cfg(test)]
-mod tests;
 
 pub use crew::{Post, serve_all};
 pub use dpe_connections::{

@@ -1,7 +1,11 @@
 mod boot;
 mod crowd;
+mod desk;
+mod gate;
 mod ground;
 mod house;
+mod pair;
 mod race;
 mod raw;
+mod turn;
 mod watch;

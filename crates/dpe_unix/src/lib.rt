@@ -11,8 +11,6 @@ mod openings;
 mod program;
 mod report;
 mod shelf;
-#[cfg(test)]
-mod tests;
 mod urandom;
 mod words;
 

@@ -2,7 +2,5 @@
 #![tactic(auto)]
 
 mod share;
-#[cfg(test)]
-mod tests;
 
 pub use share::{act_both, act_often, open};

@@ -1,8 +1,8 @@
 // The folder of a test, and the calls of the three programs there.
 use super::house::BoundHouse;
-use dpe_script::client_main;
-use dpe_io::MemSink;
 use dpe_audit::replay_main;
+use dpe_io::MemSink;
+use dpe_script::client_main;
 use dpe_serve::serve_main;
 use dpe_unix::{FileDock, FileShelf};
 use std::alloc::{AllocError, Global};

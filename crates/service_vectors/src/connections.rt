@@ -1,0 +1,285 @@
+//! Connections over a book, and a worker over the connections of its door.
+ghost use Rattle.std.specs.Prelude.{◌≡◌, ◌≤◌, All, IfOk, OnOk};
+ghost use Rattle.dpe_io.specs.Memory.{IsFaultless};
+
+use crate::bytes::{Names, RowFault, Runs, number_of, numbers_of, shown};
+use crate::journals::{DIFFERS, PIECES, book_of, shown_entry};
+use dpe_connections::{End, Room, Tally, Worker, serve_connection, serve_worker};
+use dpe_desk::Desk;
+use dpe_io::{MemConn, MemDoor, MemEntropy, MemSink, MemSource};
+use dpe_journal::Book;
+use std::alloc::{AllocError, Global};
+use std::sync::Wait;
+
+// The room of a connection for what it gets.
+const ROOM: usize = 9_000;
+
+// The locality of all connections here.
+const LOCALITY: u8 = 3;
+
+/// Which calls of a connection and of its entropy fail.
+#[derive(Clone, Copy)]
+pub(crate) struct Failing<'a> {
+    pub(crate) reads: &'a [u32],
+    pub(crate) writes: &'a [u32],
+    pub(crate) draws: &'a [u32],
+}
+
+/// No call fails.
+pub(crate) const NONE: Failing<'static> = Failing {
+    reads: &[],
+    writes: &[],
+    draws: &[],
+};
+
+/// A connection that sends these bytes in pieces.
+pub(crate) fn conn_of(
+    alloc: Global,
+    sent: &[u8],
+    piece: usize,
+    failing: &Failing<'_>,
+) -> Result<MemConn, AllocError>
+    requires { 1 ≤ piece }
+    ensures { IfOk result IsFaultless }
+{
+    let source = MemSource::new(alloc, sent, piece, failing.reads)?;
+    let sink = MemSink::new(alloc, ROOM, ROOM, failing.writes)?;
+    Ok(MemConn::new(source, sink))
+}
+
+/// Adds a connection that sends these bytes.
+pub(crate) fn add_conn(
+    alloc: Global,
+    conns: &mut Vec<MemConn>,
+    sent: &[u8],
+    failing: &Failing<'_>,
+) -> Result<(), AllocError>
+    requires { All IsFaultless conns.old.items }
+    ensures { OnOk result (All IsFaultless conns.new.items) }
+{
+    conns.push(conn_of(alloc, sent, 7, failing)?)?;
+    Ok(())
+}
+
+// How a connection ended.
+fn shown_end(alloc: Global, end: End) -> Result<String, AllocError> {
+    match end {
+        End::Closed => String::from_str(alloc, "closed"),
+        End::Full { ticket } => format!(in alloc; "full at {ticket}"),
+        End::Cut { have } => format!(in alloc; "cut at {have}"),
+        End::TooLong { length } => format!(in alloc; "too long {length}"),
+        End::ReadFault => String::from_str(alloc, "read fault"),
+        End::WriteFault => String::from_str(alloc, "write fault"),
+        End::EntropyFault => String::from_str(alloc, "entropy fault"),
+    }
+}
+
+// What came of a connection: how it ended, what it got and left, and the entries of the book.
+#[derive(Drop)]
+struct Ended {
+    end: End,
+    conn: MemConn,
+    book: Book,
+}
+
+// Serves one connection over a book.
+fn serve_one<R: Wait>(
+    rt: &R,
+    alloc: Global,
+    capacity: &str,
+    sent: &[u8],
+    piece: usize,
+    failing: &Failing<'_>,
+) -> Result<Ended, RowFault>
+    requires { 1 ≤ piece }
+{
+    let book = book_of(alloc, capacity)?;
+    let most = u64::from(book.capacity());
+    let Ok((desk, mut pass)) = Desk::make(alloc, book, most) else {
+        return Err(RowFault::NoMemory(AllocError));
+    };
+    let mut conn = conn_of(alloc, sent, piece, failing)?;
+    let mut entropy = MemEntropy::new(alloc, &[[5; 32]], failing.draws)?;
+    let mut room = Room::make(alloc)?;
+    let end = serve_connection(
+        rt,
+        &desk,
+        &mut pass,
+        0,
+        LOCALITY,
+        &mut conn,
+        &mut entropy,
+        &mut room,
+    );
+    Ok(Ended {
+        end,
+        conn,
+        book: desk.close(pass),
+    })
+}
+
+// All that came of it.
+fn shown_whole(alloc: Global, ended: &Ended) -> Result<String, AllocError> {
+    let mut text = shown_end(alloc, ended.end)?;
+    write!(
+        text,
+        ", left {}, got {}",
+        shown(alloc, ended.conn.source().left())?,
+        shown(alloc, ended.conn.sink().bytes())?
+    )?;
+    for at in 0..ended.book.length() {
+        write!(text, ", {}", shown_entry(alloc, ended.book.entry(at))?)?;
+    }
+    Ok(text)
+}
+
+/// What comes of a connection over a book of so many places, at locality 3. Its first random bytes are fives, and then
+/// zeros.
+pub(crate) fn serve<R: Wait>(
+    rt: &R,
+    alloc: Global,
+    capacity: &str,
+    sent: &[u8],
+) -> Result<String, RowFault> {
+    let [one, seven, all] = PIECES;
+    let first = serve_one(rt, alloc, capacity, sent, one, &NONE)?;
+    let second = serve_one(rt, alloc, capacity, sent, seven, &NONE)?;
+    let third = serve_one(rt, alloc, capacity, sent, all, &NONE)?;
+    let text = shown_whole(alloc, &first)?;
+    let second = shown_whole(alloc, &second)?;
+    let third = shown_whole(alloc, &third)?;
+    if text.as_str() != second.as_str() || text.as_str() != third.as_str() {
+        return Ok(String::from_str(alloc, DIFFERS)?);
+    }
+    Ok(text)
+}
+
+// The end, the number of entries and of the bytes that the connection got.
+fn shown_short(alloc: Global, ended: &Ended) -> Result<String, AllocError> {
+    let end = shown_end(alloc, ended.end)?;
+    let got = ended.conn.sink().bytes().len();
+    format!(in alloc; "{end}, {} entries, {got} bytes", ended.book.length())
+}
+
+/// The same where each of the first calls, so many, of a kind fails: `reads`, `writes` or `draws`.
+pub(crate) fn serve_failing<R: Wait>(
+    rt: &R,
+    alloc: Global,
+    kind: &str,
+    calls: &str,
+    piece: &str,
+    sent: &[u8],
+) -> Result<String, RowFault> {
+    let calls = number_of(calls)?;
+    let piece = number_of(piece)? as usize;
+    if piece == 0 {
+        return Err(RowFault::Unread);
+    }
+    let mut runs = Runs::new(alloc);
+    for call in 0..calls {
+        let listed = [call];
+        let failing = match kind {
+            "reads" => Failing {
+                reads: &listed,
+                ..NONE
+            },
+            "writes" => Failing {
+                writes: &listed,
+                ..NONE
+            },
+            "draws" => Failing {
+                draws: &listed,
+                ..NONE
+            },
+            _ => return Err(RowFault::Unread),
+        };
+        let ended = serve_one(rt, alloc, "2", sent, piece, &failing)?;
+        runs.add(call as usize, shown_short(alloc, &ended)?)?;
+    }
+    Ok(runs.text())
+}
+
+// The connections that send what the words say.
+fn conns_of(alloc: Global, names: &Names, words: &[&str]) -> Result<Vec<MemConn>, RowFault>
+    ensures { IfOk result (λ conns. All IsFaultless conns.items) }
+{
+    let mut conns = Vec::new(alloc);
+    for word in words {
+        add_conn(alloc, &mut conns, &names.bytes(alloc, word)?, &NONE)?;
+    }
+    Ok(conns)
+}
+
+/// A door at which connections wait that send what the words say, and of which these calls fail.
+pub(crate) fn door_of(
+    alloc: Global,
+    names: &Names,
+    words: &[&str],
+    failing: &[u32],
+) -> Result<MemDoor, RowFault>
+    ensures { IfOk result (λ door. (door.faults ≡ 0) × (door.ended ≡ [])) }
+{
+    let conns = conns_of(alloc, names, words)?;
+    Ok(MemDoor::new(alloc, conns, failing)?)
+}
+
+// Serves the connections of a door over a book.
+fn work_on<R: Wait>(
+    rt: &R,
+    alloc: Global,
+    capacity: &str,
+    each: u32,
+    door: MemDoor,
+) -> Result<(Tally, MemDoor, Book), RowFault> {
+    let book = book_of(alloc, capacity)?;
+    let most = u64::from(book.capacity());
+    let Ok((desk, pass)) = Desk::make(alloc, book, most) else {
+        return Err(RowFault::NoMemory(AllocError));
+    };
+    let entropy = MemEntropy::new(alloc, &[], &[])?;
+    let room = Room::make(alloc)?;
+    let mut worker = Worker::new(door, entropy, pass, LOCALITY, each, room);
+    serve_worker(rt, &desk, &mut worker);
+    let Worker {
+        door,
+        entropy: _,
+        pass,
+        locality: _,
+        each: _,
+        tally,
+        room: _,
+    } = worker;
+    Ok((tally, door, desk.close(pass)))
+}
+
+/// What a worker tallies, how many entries it makes over a book of so many places, and what each connection got that
+/// was handed back. It may serve at most `each` connections.
+pub(crate) fn work<R: Wait>(
+    rt: &R,
+    alloc: Global,
+    names: &Names,
+    capacity: &str,
+    each: &str,
+    failing: &str,
+    words: &[&str],
+) -> Result<String, RowFault> {
+    let failing = numbers_of(alloc, failing)?;
+    let door = door_of(alloc, names, words, &failing)?;
+    let (tally, door, book) = work_on(rt, alloc, capacity, number_of(each)?, door)?;
+    let failed = if tally.door_failed {
+        ", door failed"
+    } else {
+        ""
+    };
+    let mut text = format!(in alloc;
+        "connections {}, full {}, cut {}{failed}, {} entries",
+        tally.connections,
+        tally.full,
+        tally.cut,
+        book.length()
+    )?;
+    for conn in door.ended() {
+        write!(text, ", got {}", shown(alloc, conn.sink().bytes())?)?;
+    }
+    Ok(text)
+}

@@ -1,0 +1,222 @@
+//! The server's call over a house in memory.
+ghost use Rattle.std.specs.Prelude.{◌≡◌, [], All, IfOk, OnOk};
+ghost use Rattle.dpe_io.specs.Memory.{IsFaultless, IsUnused};
+
+use crate::bytes::{Names, RowFault, numbers_of, shown};
+use crate::connections::{Failing, add_conn};
+use crate::house::Asked;
+use dpe_io::{MemDoor, MemEntropy, MemHouse, MemSink, MemSource};
+use dpe_serve::serve_main;
+use std::alloc::{AllocError, Global};
+use std::sync::Wait;
+use std::thread::Threads;
+
+// What stands between the parts of a row: the server's words, where `-` stands for an empty one, and then parts that say
+// what differs from a house with a seed of zeros and no door, of which no call fails.
+const BETWEEN: &str = ";";
+
+// The calls that fail, of each kind; those of doors, connections and entropies at each of them.
+#[derive(Drop)]
+struct Fails {
+    openings: Vec<u32>,
+    seed: Vec<u32>,
+    door: Vec<u32>,
+    reads: Vec<u32>,
+    writes: Vec<u32>,
+    draws: Vec<u32>,
+    journal: Vec<u32>,
+    out: Vec<u32>,
+}
+
+impl Fails {
+    fn new(alloc: Global) -> Fails {
+        Fails {
+            openings: Vec::new(alloc),
+            seed: Vec::new(alloc),
+            door: Vec::new(alloc),
+            reads: Vec::new(alloc),
+            writes: Vec::new(alloc),
+            draws: Vec::new(alloc),
+            journal: Vec::new(alloc),
+            out: Vec::new(alloc),
+        }
+    }
+
+    // These calls of a kind fail.
+    fn set(&mut self, kind: &str, calls: Vec<u32>) -> Result<(), RowFault> {
+        match kind {
+            "openings" => self.openings = calls,
+            "seed" => self.seed = calls,
+            "door" => self.door = calls,
+            "reads" => self.reads = calls,
+            "writes" => self.writes = calls,
+            "draws" => self.draws = calls,
+            "journal" => self.journal = calls,
+            "out" => self.out = calls,
+            _ => return Err(RowFault::Unread),
+        }
+        Ok(())
+    }
+}
+
+// What a row says: the server's words, the seed, what the connections of each door send, the byte that each entropy's
+// first word is made of, and the calls that fail.
+#[derive(Drop)]
+struct Plan<'a> {
+    words: Vec<&'a str>,
+    seed: Vec<u8>,
+    doors: Vec<&'a [&'a str]>,
+    random: Vec<u8>,
+    fails: Fails,
+}
+
+impl<'a> Plan<'a> {
+    fn new(alloc: Global) -> Result<Plan<'a>, AllocError> {
+        Ok(Plan {
+            words: Vec::new(alloc),
+            seed: Vec::from_slice(alloc, &[0; 32])?,
+            doors: Vec::new(alloc),
+            random: Vec::new(alloc),
+            fails: Fails::new(alloc),
+        })
+    }
+
+    // Takes a part behind the server's words in.
+    fn add(&mut self, alloc: Global, names: &Names, part: &'a [&'a str]) -> Result<(), RowFault> {
+        match part {
+            ["seed", bytes] => self.seed = names.bytes(alloc, bytes)?,
+            ["door", sent @ ..] => self.doors.push(sent)?,
+            ["random", bytes] => self.random = names.bytes(alloc, bytes)?,
+            ["fail", kind, calls] => self.fails.set(kind, numbers_of(alloc, calls)?)?,
+            _ => return Err(RowFault::Unread),
+        }
+        Ok(())
+    }
+
+    // Takes the server's words in.
+    fn set_words(&mut self, words: &'a [&'a str]) -> Result<(), AllocError> {
+        for word in words {
+            let word = if *word == "-" { "" } else { *word };
+            self.words.push(word)?;
+        }
+        Ok(())
+    }
+}
+
+// What the words of a row say.
+fn plan_of<'a>(alloc: Global, names: &Names, row: &'a [&'a str]) -> Result<Plan<'a>, RowFault> {
+    let mut plan = Plan::new(alloc)?;
+    let mut parts = row.split(|word| *word == BETWEEN);
+    if let Some(words) = parts.next() {
+        plan.set_words(words)?;
+    }
+    for part in parts {
+        plan.add(alloc, names, part)?;
+    }
+    Ok(plan)
+}
+
+// A door at which connections wait that send what the words say.
+fn door_of(alloc: Global, names: &Names, sent: &[&str], fails: &Fails) -> Result<MemDoor, RowFault>
+    ensures { IfOk result IsUnused }
+{
+    let failing = Failing {
+        reads: &fails.reads,
+        writes: &fails.writes,
+        draws: &[],
+    };
+    let mut conns = Vec::new(alloc);
+    for word in sent {
+        add_conn(alloc, &mut conns, &names.bytes(alloc, word)?, &failing)?;
+    }
+    Ok(MemDoor::new(alloc, conns, &fails.door)?)
+}
+
+fn doors_of(alloc: Global, names: &Names, plan: &Plan<'_>) -> Result<Vec<MemDoor>, RowFault>
+    ensures { IfOk result (λ doors. All IsUnused doors.items) }
+{
+    let mut doors = Vec::new(alloc);
+    for sent in &plan.doors {
+        doors.push(door_of(alloc, names, sent, &plan.fails)?)?;
+    }
+    Ok(doors)
+}
+
+// An entropy for each door.
+fn entropies_of(alloc: Global, plan: &Plan<'_>) -> Result<Vec<MemEntropy>, AllocError>
+    ensures { IfOk result (λ entropies. All (λ entropy. entropy.faults ≡ 0) entropies.items) }
+{
+    let mut entropies = Vec::new(alloc);
+    for place in 0..plan.doors.len() {
+        let byte = plan.random.get(place).copied().unwrap_or(0);
+        entropies.push(MemEntropy::new(alloc, &[[byte; 32]], &plan.fails.draws)?)?;
+    }
+    Ok(entropies)
+}
+
+// The house of a row. Its seed gives 20 bytes at most in a read, its journal takes 100 in a write.
+fn house_of(alloc: Global, names: &Names, plan: &Plan<'_>) -> Result<Asked, RowFault> {
+    let seed = MemSource::new(alloc, &plan.seed, 20, &plan.fails.seed)?;
+    let journal = MemSink::new(alloc, 9_000, 100, &plan.fails.journal)?;
+    let doors = doors_of(alloc, names, plan)?;
+    let entropies = entropies_of(alloc, plan)?;
+    Ok(Asked {
+        house: MemHouse::new(alloc, seed, journal, doors, entropies, &plan.fails.openings)?,
+        paths: String::new(alloc),
+    })
+}
+
+// The lines of a summary, with a comma between two.
+fn shown_summary(alloc: Global, printed: &[u8]) -> Result<String, AllocError> {
+    let text = str::from_utf8(printed).unwrap_or("no text");
+    if text.is_empty() {
+        return String::from_str(alloc, "nothing");
+    }
+    let mut line = String::new(alloc);
+    for word in text.lines() {
+        if !line.is_empty() {
+            line.push_str(", ")?;
+        }
+        line.push_str(word)?;
+    }
+    Ok(line)
+}
+
+// What is left of a house: the connections that each door got back, with what they got and left; how many entropies
+// came back; and what the journal got.
+fn shown_house(alloc: Global, house: &MemHouse) -> Result<String, AllocError> {
+    let mut text = String::new(alloc);
+    for door in house.doors() {
+        text.push_str("; door")?;
+        for conn in door.ended() {
+            let got = shown(alloc, conn.sink().bytes())?;
+            let left = shown(alloc, conn.source().left())?;
+            write!(text, " got {got} left {left}")?;
+        }
+    }
+    write!(text, "; entropies {}", house.entropies().len())?;
+    match house.journal_sink() {
+        Some(sink) => write!(text, "; journal {}", shown(alloc, sink.bytes())?)?,
+        None => text.push_str("; no journal")?,
+    }
+    Ok(text)
+}
+
+/// What the server answers: its status, the paths that it asked for, what it printed, and what is left of the house.
+pub(crate) fn serve<R: Threads + Wait + Sync>(
+    rt: &R,
+    alloc: Global,
+    names: &Names,
+    row: &[&str],
+) -> Result<String, RowFault> {
+    let plan = plan_of(alloc, names, row)?;
+    let mut asked = house_of(alloc, names, &plan)?;
+    let mut out = MemSink::new(alloc, 200, 20, &plan.fails.out)?;
+    let status = serve_main(rt, alloc, &plan.words, &mut asked, &mut out);
+    Ok(format!(in alloc;
+        "status {status}; asked{}; printed {}{}",
+        asked.paths,
+        shown_summary(alloc, out.bytes())?,
+        shown_house(alloc, &asked.house)?
+    )?)
+}
