@@ -177,7 +177,8 @@ def boxes(session):
     too_long = b"\x01" + salt + b"\xff\x0f" + (2049).to_bytes(2, "big") + bytes(2049 + 64)
     unseal("2049-bytes-of-plaintext", too_long, code=22)
     unseal("3900-bytes", times(0x01, 3900), code=22)
-    session.heading("Code 23: the form of a box, and another tag. A bit turned in each part that the tag covers, and in the tag.")
+    session.heading("Code 23: the form of a box, and another tag. A bit turned in each part that the tag covers, and in "
+                    "the tag.")
     for name, place in ("salt", 1), ("localities", 17), ("modes", 18), ("ciphertext", 21), ("tag", 29), ("end", 92):
         unseal(f"bit-in-{name}", box[:place] + bytes([box[place] ^ 1]) + box[place + 1 :], code=23)
     unseal("another-label", box, code=23, label=b"disk")
@@ -225,10 +226,12 @@ def encoding(session):
         "a-byte-string": "438207a0",
         "array-of-one": "8143" "8207a0",
         "array-of-three": "830043" "8207a0" "00",
+        "array-of-three-with-two": "830043" "8207a0",
         "array-of-indefinite-length": "9f0043" "8207a0" "ff",
         "session-negative": "822043" "8207a0",
         "session-a-string": "824043" "8207a0",
         "session-in-two-bytes": "82180043" "8207a0",
+        "session-not-assigned": "821c43" "8207a0",
         "inside-a-text": "820063" "8207a0",
         "inside-not-wrapped": "8200" "8207a0",
         "inside-of-indefinite-length": "82005f43" "8207a0" "ff",
@@ -245,11 +248,14 @@ def encoding(session):
         "number-alone": "07",
         "message-of-one": "8107",
         "message-of-three": "8307a000",
+        "message-of-three-with-two": "8307a0",
         "number-negative": "8227a0",
         "number-a-string": "8241" "07" "a0",
         "number-in-two-bytes": "821807a0",
         "no-map": "820780",
         "map-of-indefinite-length": "8207bfff",
+        "map-head-of-indefinite-length": "8207bf",
+        "map-head-not-assigned": "8207bc",
         "map-cut-short": "8207a101",
         "map-too-short": "8207a2" "01f4",
         "byte-behind-the-message": "8207a000",
@@ -266,7 +272,7 @@ def encoding(session):
 
 
 def map_faults(session):
-    session.heading("Keys and values of a map that the wire doesn't have. Its keys aren't looked at before all of it is read.")
+    session.heading("Keys and values of a map that the wire doesn't have.")
     for name, digits in {
         "key-negative": "a1" "20f4",
         "key-a-string": "a1" "4101f4",
@@ -286,6 +292,9 @@ def map_faults(session):
         "value-half-float": "a1" "01f93c00",
         "value-float": "a1" "01fa3f800000",
         "value-break": "a1" "01ff",
+        "value-number-not-assigned": "a1" "011d",
+        "value-string-not-assigned": "a1" "015e",
+        "value-text-of-indefinite-length": "a1" "017f",
         "value-number-not-shortest": "a1" "01190001",
         "value-string-not-shortest": "a1" "01580100",
         "value-string-of-indefinite-length": "a1" "015f4100ff",
@@ -311,7 +320,8 @@ def outside(session):
     for number in 2, 3, 4, 5, 6, 9, 13, 16:
         session.command(f"command-{number}", 0, number, {}, 16)
     session.command("command-9-with-any-map", 0, 9, {1: "text", 99: True}, 16)
-    session.heading("Arguments that ask for more. This comes before code 3: the same maps have unknown keys, or lack required ones.")
+    session.heading("Arguments that ask for more. This comes before code 3: some of these maps have unknown keys, or lack "
+                    "required ones.")
     session.command("simulation", 0, INITIALIZE, {1: True}, 16)
     session.command("use-default-context", 0, INITIALIZE, {2: True}, 16)
     session.command("create-certificate", 0, DERIVE, {11: True}, 16)
@@ -325,6 +335,8 @@ def outside(session):
         ("simulation-a-number", INITIALIZE, {1: 1}),
         ("create-certificate-a-number", DERIVE, LAYER | {1: NEVER_MADE, 11: 1}),
         ("is-symmetric-a-number", SIGN, {1: NEVER_MADE, 4: 1, 5: b"hi"}),
+        ("is-symmetric-zero", SIGN, {1: NEVER_MADE, 4: 0, 5: b"hi"}),
+        ("is-symmetric-no-bytes", SIGN, {1: NEVER_MADE, 4: b"", 5: b"hi"}),
         ("is-asymmetric-a-text", UNSEAL, {1: NEVER_MADE, 4: "no", 5: b""}),
         ("to-be-default-a-string", ROTATE, {1: NEVER_MADE, 2: b""}),
     ):
@@ -366,6 +378,12 @@ def arguments(session):
     for name, (number, fields, _) in commands.items():
         session.command(f"{name}-key-99", 0, number, fields | {99: 0}, 3)
     session.command("rotate-key-0", 0, ROTATE, {0: 0, 1: handle}, 3)
+    for key in 23, 24, 255, 256, 65535, 65536, 2**32 - 1, 2**32, 2**64 - 1:
+        session.command(f"rotate-key-{key}", 0, ROTATE, {1: handle, key: key}, 3)
+    session.heading("Values that are encoded as they should be, and that no argument has.")
+    session.command("text-of-every-length-of-utf-8", 0, INITIALIZE, {1: "a\u00e9\u20ac\U0001f600"}, 3)
+    session.command("text-of-no-bytes", 0, INITIALIZE, {2: ""}, 3)
+    session.command("string-of-256-bytes", 0, INITIALIZE, {1: times(0, 256)}, 3)
     session.heading("A required key that is absent.")
     for name, (number, fields, required) in commands.items():
         for key in required:
@@ -428,7 +446,8 @@ def order(session):
     closed, _ = session.sign("it-signs", closed, locality=4)
     closed = session.rotate("it-rotates", closed, locality=4)
     session.derive("may-not-derive-still", closed, locality=4, code=19)
-    session.heading("A refusal spends nothing: an empty box tells whether a handle is live at this locality, and changes nothing.")
+    session.heading("A refusal spends nothing: an empty box tells whether a handle is live at this locality, and changes "
+                    "nothing.")
     session.unseal("live-here", closed, b"", locality=4, code=22)
     session.unseal("live-elsewhere", closed, b"", code=18)
     session.destroy("destroy-it", closed, locality=4)

@@ -64,7 +64,7 @@ class Session:
         return fields
 
     def stream(self, name, locality, data, ends=False, code=None):
-        """Bytes that end the connection: by the client where `ends`, else by the server. `code` is that of the last reply."""
+        """Bytes at which the connection ends, by the client where `ends`. `code` is that of the last reply."""
         random = self.next_random()
         replies = b""
         for one in split_frames(data)[0]:
@@ -110,7 +110,8 @@ class Session:
 
     def seal(self, name, handle, plaintext=b"a secret", locality=0, code=OK, retain=True, label=b"", **masks):
         keys = {"localities": 4, "modes": 5}
-        return self.use(name, SEAL, handle, locality, code, retain, label, {6: plaintext} | {keys[k]: v for k, v in masks.items()})
+        fields = {6: plaintext} | {keys[word]: mask for word, mask in masks.items()}
+        return self.use(name, SEAL, handle, locality, code, retain, label, fields)
 
     def unseal(self, name, handle, box, locality=0, code=OK, retain=True, label=b""):
         return self.use(name, UNSEAL, handle, locality, code, retain, label, {5: box})

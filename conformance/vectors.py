@@ -1,4 +1,6 @@
 """The lines of vectors/*.txt: what they say, and how they are read. README.md of this folder has their form."""
+from __future__ import annotations
+
 from dataclasses import dataclass, field
 from pathlib import Path
 

@@ -2,8 +2,8 @@
  *
  *     boot ROM TEE LOADER KERNEL
  *
- * The four words are the paths of the sockets of the localities 0 to 3. It prints what came back, and ends with 1 at the first
- * answer that isn't the expected one. */
+ * The four words are the paths of the sockets of the localities 0 to 3. It prints what came back, and ends with 1 at the
+ * first answer that isn't the expected one. */
 #define _POSIX_C_SOURCE 200809L
 #include <errno.h>
 #include <stdio.h>

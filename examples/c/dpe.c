@@ -253,12 +253,13 @@ static enum dpe_status finish(struct dpe *dpe, enum dpe_status status, const str
     return status;
 }
 
-/* Keeps a handle that a reply brought for a new context. */
+/* Keeps a handle that a right reply brought for a new context. */
 static void keep(struct dpe_handle *handle, enum dpe_status status, const uint8_t *bytes)
 {
-    handle->state = status == DPE_OK ? DPE_LIVE : DPE_NONE;
-    if (status == DPE_OK)
-        copy(handle->bytes, bytes, DPE_HANDLE_BYTES);
+    if (status != DPE_OK)
+        return;
+    handle->state = DPE_LIVE;
+    copy(handle->bytes, bytes, DPE_HANDLE_BYTES);
 }
 
 /* No message, plaintext or hidden input stays in the room. */

@@ -107,10 +107,12 @@ void dpe_open(struct dpe *dpe, struct dpe_transport transport);
 /* DPE_OK where the server has the profile dpe-symmetric-1, and DPE_NO_REPLY where it has another. */
 enum dpe_status dpe_check_profile(struct dpe *dpe);
 
-/* The root, once in the life of a server, at locality 0. */
+/* The root, once in the life of a server, at locality 0. Here and below a new context's handle is written where the status is
+ * DPE_OK, and else stays as it was. */
 enum dpe_status dpe_initialize(struct dpe *dpe, struct dpe_handle *root);
 
-/* A child of `parent`, which stays under a new handle where it is retained, and else is gone. */
+/* A child of `parent`, which stays under a new handle where it is retained, and else is gone. `child` is another object than
+ * `parent`. */
 enum dpe_status dpe_derive(struct dpe *dpe, struct dpe_handle *parent, bool retain, const struct dpe_layer *layer,
                            struct dpe_handle *child);
 
@@ -129,7 +131,8 @@ enum dpe_status dpe_rotate(struct dpe *dpe, struct dpe_handle *handle);
 enum dpe_status dpe_destroy(struct dpe *dpe, struct dpe_handle *handle, bool recursively);
 
 /* What became of a command whose reply was lost, asked on a new connection to the same socket: DPE_OK where it wasn't
- * executed, and the handle is live; DPE_NO_SUCH_HANDLE where it was, and the handle is spent. Changes nothing at the server. */
+ * executed, and the handle is live; DPE_NO_SUCH_HANDLE where it was, and the handle is spent. It changes nothing at the
+ * server, but takes a place of its history. */
 enum dpe_status dpe_find_out(struct dpe *dpe, struct dpe_handle *handle);
 
 /* A word or two for a log. */

@@ -37,7 +37,20 @@ static bool give(void *context, uint8_t *bytes, size_t count)
 }
 
 /* The commands, each on a connection of its own whose only reply is what stands in the memory. */
-enum call { PROFILE, INITIALIZE, DERIVE, DERIVE_RETAIN, SIGN, SIGN_RETAIN, SEAL, SEAL_RETAIN, UNSEAL, UNSEAL_RETAIN, ROTATE, DESTROY };
+enum call {
+    PROFILE,
+    INITIALIZE,
+    DERIVE,
+    DERIVE_RETAIN,
+    SIGN,
+    SIGN_RETAIN,
+    SEAL,
+    SEAL_RETAIN,
+    UNSEAL,
+    UNSEAL_RETAIN,
+    ROTATE,
+    DESTROY
+};
 
 static const struct dpe_bytes NO_LABEL = {NULL, 0};
 static const struct dpe_policy EVERYBODY = {DPE_ALL_LOCALITIES, DPE_ALL_MODES};
