@@ -1,6 +1,6 @@
 //! Connections over a book, and a worker over the connections of its door.
-ghost use Rattle.std.specs.Prelude.{◌≡◌, ◌≤◌, All, IfOk, OnOk};
-ghost use Rattle.dpe_io.specs.Memory.{IsFaultless};
+ghost use Rattle.std.specs.Prelude.{◌≤◌, All, IfOk, OnOk};
+ghost use Rattle.dpe_io.specs.Memory.{IsFaultless, IsUnused};
 
 use crate::bytes::{Names, RowFault, Runs, number_of, numbers_of, shown};
 use crate::journals::{DIFFERS, PIECES, book_of, shown_entry};
@@ -25,15 +25,15 @@ pub(crate) struct Failing<'a> {
     pub(crate) draws: &'a [u32],
 }
 
-/// No call fails.
-pub(crate) const NONE: Failing<'static> = Failing {
+// No call fails.
+const NONE: Failing<'static> = Failing {
     reads: &[],
     writes: &[],
     draws: &[],
 };
 
-/// A connection that sends these bytes in pieces.
-pub(crate) fn conn_of(
+// A connection that sends these bytes in pieces.
+fn conn_of(
     alloc: Global,
     sent: &[u8],
     piece: usize,
@@ -47,8 +47,8 @@ pub(crate) fn conn_of(
     Ok(MemConn::new(source, sink))
 }
 
-/// Adds a connection that sends these bytes.
-pub(crate) fn add_conn(
+// Adds a connection that sends these bytes, seven at a time.
+fn add_conn(
     alloc: Global,
     conns: &mut Vec<MemConn>,
     sent: &[u8],
@@ -199,28 +199,22 @@ pub(crate) fn serve_failing<R: Wait>(
     Ok(runs.text())
 }
 
-// The connections that send what the words say.
-fn conns_of(alloc: Global, names: &Names, words: &[&str]) -> Result<Vec<MemConn>, RowFault>
-    ensures { IfOk result (λ conns. All IsFaultless conns.items) }
-{
-    let mut conns = Vec::new(alloc);
-    for word in words {
-        add_conn(alloc, &mut conns, &names.bytes(alloc, word)?, &NONE)?;
-    }
-    Ok(conns)
-}
-
-/// A door at which connections wait that send what the words say, and of which these calls fail.
+/// A door at which connections wait that send what the words say. These calls of its own fail, and these of each
+/// connection.
 pub(crate) fn door_of(
     alloc: Global,
     names: &Names,
     words: &[&str],
-    failing: &[u32],
+    nexts: &[u32],
+    failing: &Failing<'_>,
 ) -> Result<MemDoor, RowFault>
-    ensures { IfOk result (λ door. (door.faults ≡ 0) × (door.ended ≡ [])) }
+    ensures { IfOk result IsUnused }
 {
-    let conns = conns_of(alloc, names, words)?;
-    Ok(MemDoor::new(alloc, conns, failing)?)
+    let mut conns = Vec::new(alloc);
+    for word in words {
+        add_conn(alloc, &mut conns, &names.bytes(alloc, word)?, failing)?;
+    }
+    Ok(MemDoor::new(alloc, conns, nexts)?)
 }
 
 // Serves the connections of a door over a book.
@@ -264,7 +258,7 @@ pub(crate) fn work<R: Wait>(
     words: &[&str],
 ) -> Result<String, RowFault> {
     let failing = numbers_of(alloc, failing)?;
-    let door = door_of(alloc, names, words, &failing)?;
+    let door = door_of(alloc, names, words, &failing, &NONE)?;
     let (tally, door, book) = work_on(rt, alloc, capacity, number_of(each)?, door)?;
     let failed = if tally.door_failed {
         ", door failed"

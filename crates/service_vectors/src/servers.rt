@@ -1,9 +1,9 @@
 //! The server's call over a house in memory.
-ghost use Rattle.std.specs.Prelude.{◌≡◌, [], All, IfOk, OnOk};
-ghost use Rattle.dpe_io.specs.Memory.{IsFaultless, IsUnused};
+ghost use Rattle.std.specs.Prelude.{◌≡◌, All, IfOk};
+ghost use Rattle.dpe_io.specs.Memory.{IsUnused};
 
 use crate::bytes::{Names, RowFault, numbers_of, shown};
-use crate::connections::{Failing, add_conn};
+use crate::connections::{Failing, door_of};
 use crate::house::Asked;
 use dpe_io::{MemDoor, MemEntropy, MemHouse, MemSink, MemSource};
 use dpe_serve::serve_main;
@@ -116,28 +116,18 @@ fn plan_of<'a>(alloc: Global, names: &Names, row: &'a [&'a str]) -> Result<Plan<
     Ok(plan)
 }
 
-// A door at which connections wait that send what the words say.
-fn door_of(alloc: Global, names: &Names, sent: &[&str], fails: &Fails) -> Result<MemDoor, RowFault>
-    ensures { IfOk result IsUnused }
+fn doors_of(alloc: Global, names: &Names, plan: &Plan<'_>) -> Result<Vec<MemDoor>, RowFault>
+    ensures { IfOk result (λ doors. All IsUnused doors.items) }
 {
+    let fails = &plan.fails;
     let failing = Failing {
         reads: &fails.reads,
         writes: &fails.writes,
         draws: &[],
     };
-    let mut conns = Vec::new(alloc);
-    for word in sent {
-        add_conn(alloc, &mut conns, &names.bytes(alloc, word)?, &failing)?;
-    }
-    Ok(MemDoor::new(alloc, conns, &fails.door)?)
-}
-
-fn doors_of(alloc: Global, names: &Names, plan: &Plan<'_>) -> Result<Vec<MemDoor>, RowFault>
-    ensures { IfOk result (λ doors. All IsUnused doors.items) }
-{
     let mut doors = Vec::new(alloc);
     for sent in &plan.doors {
-        doors.push(door_of(alloc, names, sent, &plan.fails)?)?;
+        doors.push(door_of(alloc, names, sent, &fails.door, &failing)?)?;
     }
     Ok(doors)
 }

@@ -1,6 +1,5 @@
 // A desk one of whose callers is within its turn for long. The others go on with all that is no call of the object.
-ghost use Rattle.std.specs.Prelude.{◌≡◌, ◌+◌, ◌≤◌};
-ghost use Rattle.std.specs.Thread.{IsSync};
+ghost use Rattle.std.specs.Prelude.{◌+◌, ◌≤◌};
 ghost use Rattle.dpe_desk.specs.Passes.{Belongs};
 ghost use Rattle.dpe_desk.specs.Views.{held};
 
@@ -34,7 +33,7 @@ struct Held<'a> {
 }
 
 impl<'a> Sequential for Held<'a> {
-    ghost use Rattle.std.specs.Prelude.{ℕ, if◌then◌else◌, [], ◌∷◌, false, ⊤, tt};
+    ghost use Rattle.std.specs.Prelude.{if◌then◌else◌, [], ◌∷◌, false, ⊤};
 
     type Call = u32;
 
