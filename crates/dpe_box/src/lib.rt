@@ -4,8 +4,6 @@
 
 mod policy;
 mod sealing;
-#[cfg(test)]
-mod tests;
 
 pub use policy::{NotOpened, Opened, Policy, Unopened};
 pub use sealing::{admits, has_form, open_box, opens_as_sealed, seal, unseal, unseals_as_sealed};

@@ -10,9 +10,6 @@ ghost use Rattle.dpe_chacha.specs.ChaCha20.{chacha20, combined};
 use rand_chacha::ChaCha20Rng;
 use rand_core::{SeedableRng, utils};
 
-#[cfg(test)]
-mod tests;
-
 // The generator at the block of this key, nonce and counter. Its block counter has the counter in
 // its low half and the nonce's first word in its high half; its stream has the other two words.
 fn placed(key: &[u8; 32], nonce: &[u8; 12], counter: u32) -> ChaCha20Rng

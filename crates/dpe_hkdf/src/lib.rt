@@ -9,9 +9,6 @@ ghost use Rattle.dpe_hmac.specs.Keyed.{Holds};
 
 use dpe_hmac::{Hmac, hmac_of};
 
-#[cfg(test)]
-mod tests;
-
 /// Extraction with an absent salt, whose keyed state is made once for several keying materials.
 #[derive(Drop)]
 pub struct Unsalted {

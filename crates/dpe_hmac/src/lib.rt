@@ -7,9 +7,6 @@ ghost use Rattle.dpe_hmac.specs.Keyed.{Holds};
 
 use sha2::{Digest, Sha512};
 
-#[cfg(test)]
-mod tests;
-
 /// A key, and the bytes that were appended so far. A clone is the same state, and takes no memory: so one
 /// key's two first blocks are hashed once for several messages.
 #[derive(Clone, Drop)]

@@ -9,8 +9,6 @@ use sha2::{Digest, Sha512};
 
 mod derive;
 mod meter;
-#[cfg(test)]
-mod tests;
 
 pub use derive::{first, next, signature, signature_with};
 pub use dpe_hkdf::Unsalted;

@@ -4,8 +4,6 @@
 ghost use Rattle.dpe_link.specs.Frames.{FramesAreOne};
 
 mod read;
-#[cfg(test)]
-mod tests;
 mod write;
 
 pub use read::{FrameFault, fill, read_frame};
