@@ -7,6 +7,3 @@ mod table;
 
 pub use row::Row;
 pub use table::{MOST_ROWS, Steps, Table};
-
-#[cfg(test)]
-mod tests;

@@ -12,4 +12,3 @@ pub mod Planting
 pub mod Adding
 pub mod Retiring
 pub mod Rooting
-pub mod Told

@@ -187,10 +187,3 @@ AreUnused states =
 pub record AreBelow (places : List ℕ) (n : ℕ) : Type 0 where
   pub distinct : IsDistinct nat_eq places
   pub below : (p : ℕ) → list_any (nat_eq p) places ≡ nat_lt p n
-
--- ## What the tests ask
-
--- no used place has this birth serial
-abbrev pub HasNoBirth : List Link → List State → ℕ → Type 0
-HasNoBirth links states serial =
-    (p : ℕ) → p < length states → (state_in states p).used ≡ true → (link_in links p).birth ≢ serial

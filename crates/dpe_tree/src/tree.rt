@@ -10,9 +10,6 @@ use dpe_inputs::{Cdis, Input};
 use std::alloc::{AllocError, Global};
 use std::marker::Model;
 
-#[cfg(test)]
-mod tests;
-
 /// The most steps from the root to a context.
 pub const MOST_DEPTH: u8 = 16;
 /// The most live contexts.

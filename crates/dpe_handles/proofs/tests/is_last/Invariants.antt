@@ -1,7 +1,0 @@
-use Rattle.std.proofs.Common.{ℕ, ◌<◌, slice_index_or}
-use Rattle.dpe_handles.specs.declared.row.Row.{Row}
-use Rattle.dpe_handles.specs.Rows.{serial}
-use Rattle.dpe_handles.proofs.tests.is_last.Given as goal
-
-abbrev pub invariant-loop-at : goal.invariant-loop-at
-invariant-loop-at l = (k : ℕ) (d : Row) → k < l.at → serial (slice_index_or l.table k d).handle < serial l.row.handle

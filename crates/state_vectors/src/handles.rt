@@ -1,0 +1,148 @@
+//! Rows that call the table of handles.
+ghost use Rattle.std.specs.Prelude.{◌≡◌, ◌<◌, IsTrue, All, IfOk, length};
+ghost use Rattle.dpe_handles.specs.Rows.{serial};
+
+use crate::bytes::{number, small};
+use crate::fault::Fault;
+use crate::replies::printed;
+use dpe_handles::{MOST_ROWS, Row, Steps, Table};
+use std::alloc::{AllocError, Global};
+
+// The serial of a handle.
+#[tactic(auto, unfolding(dpe_handles::specs::Rows::serial))]
+fn serial_of(handle: &[u8; 16]) -> u64
+    ensures { result ≡ serial handle.now }
+{
+    let h = handle;
+    u64::from_be_bytes([h[0], h[1], h[2], h[3], h[4], h[5], h[6], h[7]])
+}
+
+// Whether the row's serial is greater than each in the table.
+fn is_last(table: &Table, row: &Row) -> bool
+    ensures { IsTrue result → All (λ r. serial r.handle < serial row.now.handle) table.now }
+{
+    let key = serial_of(&row.handle);
+    for at in 0..table.len() {
+        if serial_of(&table.row(at).handle) >= key {
+            return false;
+        }
+    }
+    true
+}
+
+// Appends a row where the table has room for it and its serial is the greatest.
+fn issue(table: &mut Table, row: Row) -> Result<(), Fault> {
+    if table.len() >= MOST_ROWS || !is_last(table, &row) {
+        return Err(Fault::Unmet);
+    }
+    table.issue(row);
+    Ok(())
+}
+
+// A handle: a serial, and behind it the same byte 8 times.
+fn handle_of(serial: u64, last: u8) -> [u8; 16] {
+    let mut handle = [last; 16];
+    handle[..8].copy_from_slice(&serial.to_be_bytes());
+    handle
+}
+
+// A row whose locality and place follow from its serial.
+fn row_of(serial: u64, last: u8) -> Row {
+    Row {
+        handle: handle_of(serial, last),
+        locality: (serial % 8) as u8,
+        may_derive: serial % 2 == 1,
+        place: (serial % 4096) as u32,
+    }
+}
+
+fn told(alloc: Global, row: &Row) -> Result<String, AllocError> {
+    let handle = printed(alloc, &row.handle)?;
+    let derives = if row.may_derive { "derives" } else { "final" };
+    format!(in alloc;
+        "{handle} at locality {}, place {}, {derives}",
+        row.locality, row.place
+    )
+}
+
+// Rows of serials from the first on, each so many greater than the one before.
+fn fill(table: &mut Table, first: &str, step: &str, count: &str) -> Result<(), Fault> {
+    let mut serial = number(first)?;
+    let step = number(step)?;
+    for _ in 0..number(count)? {
+        issue(table, row_of(serial, 9))?;
+        serial = serial.saturating_add(step);
+    }
+    Ok(())
+}
+
+// The place of a handle and how many rows were looked at.
+fn found(table: &Table, handle: &[u8; 16]) -> (Option<usize>, u32) {
+    let mut steps = Steps::new();
+    let at = table.find(handle, &mut steps);
+    (at, steps.taken)
+}
+
+fn find(alloc: Global, table: &Table, handle: &[u8; 16]) -> Result<String, AllocError> {
+    match found(table, handle) {
+        (Some(at), steps) => format!(in alloc; "at {at}, {steps} looked at"),
+        (None, steps) => format!(in alloc; "none, {steps} looked at"),
+    }
+}
+
+// Looks for handles of serials from the first on, two apart: how many stand at their turn and how many nowhere, and
+// the fewest and the most rows that were looked at.
+fn search(alloc: Global, table: &Table, first: &str, count: &str) -> Result<String, Fault> {
+    let mut serial = number(first)?;
+    let (mut here, mut nowhere) = (0u32, 0u32);
+    let (mut fewest, mut most) = (u32::MAX, 0);
+    for turn in 0..number(count)? {
+        let (at, steps) = found(table, &handle_of(serial, 9));
+        match at {
+            Some(at) if at as u64 == turn => here = here.saturating_add(1),
+            Some(_) => (),
+            None => nowhere = nowhere.saturating_add(1),
+        }
+        fewest = fewest.min(steps);
+        most = most.max(steps);
+        serial = serial.saturating_add(2);
+    }
+    Ok(format!(in alloc; "{here} at their turn, {nowhere} nowhere, {fewest} to {most} looked at")?)
+}
+
+fn place(table: &Table, at: &str) -> Result<usize, Fault>
+    ensures { IfOk result (λ at. at < length table.now) }
+{
+    match at.parse::<usize>() {
+        Ok(at) if at < table.len() => Ok(at),
+        Ok(_) => Err(Fault::Unmet),
+        Err(_) => Err(Fault::Unreadable),
+    }
+}
+
+fn length(alloc: Global, table: &Table) -> Result<String, Fault> {
+    Ok(format!(in alloc; "{} rows", table.len())?)
+}
+
+/// The line of a row.
+pub(crate) fn answer(alloc: Global, table: &mut Table, words: &[&str]) -> Result<String, Fault> {
+    match words {
+        ["new"] => *table = Table::make(alloc)?,
+        ["fill", first, step, count] => fill(table, first, step, count)?,
+        ["issue", serial, last] => issue(table, row_of(number(serial)?, small(last)?))?,
+        ["spend", at] => {
+            let at = place(table, at)?;
+            return Ok(told(alloc, &table.spend(at))?);
+        }
+        ["row", at] => {
+            let at = place(table, at)?;
+            return Ok(told(alloc, table.row(at))?);
+        }
+        ["find", serial, last] => {
+            return Ok(find(alloc, table, &handle_of(number(serial)?, small(last)?))?);
+        }
+        ["search", first, count] => return search(alloc, table, first, count),
+        _ => return Err(Fault::Unreadable),
+    }
+    length(alloc, table)
+}
