@@ -1,0 +1,5 @@
+mod Stepping
+mod Opening
+mod Spelling
+mod OneRequest
+mod Ending
