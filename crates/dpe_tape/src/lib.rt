@@ -6,15 +6,11 @@ mod batch;
 mod draws;
 mod law;
 mod load;
-#[cfg(test)]
-mod load_tests;
 mod pool;
 mod run;
 mod stock;
 mod tally;
 mod tape;
-#[cfg(test)]
-mod tests;
 mod words;
 
 pub use batch::batch_main;

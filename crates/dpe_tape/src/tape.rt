@@ -8,7 +8,8 @@ use dpe_link::{FrameFault, fill, read_frame};
 /// The bytes of an item before its frame: the locality and the random bytes.
 const FRONT_SIZE: usize = 33;
 
-/// Room for an item of a tape. The payload has `len` bytes.
+/// Room for an item of a tape: a locality of 0 to 7, 32 random bytes, and a payload of `len` bytes, at most 4,096, at the
+/// front of its room.
 #[derive(Drop)]
 pub struct ItemBuffer {
     pub locality: u8,
@@ -31,16 +32,17 @@ impl ItemBuffer {
     }
 }
 
-/// What was read in an item's place.
+/// What was read in an item's place: 33 bytes, the locality and the random bytes, and a frame.
 #[derive(Clone, Copy, Debug, PartialEq, Eq)]
 pub enum Taken {
-    /// A whole item.
+    /// A whole item, and just its bytes were taken.
     Whole,
     /// Nothing: the source is at its end.
     End,
-    /// Bytes that are no item.
+    /// Bytes that begin no item: they end within one, their locality is above 7, or their frame's head tells more than 4,096
+    /// bytes. Nothing is taken behind that locality's 33 bytes or that head.
     NoItem,
-    /// The source failed.
+    /// The source failed, and less than an item was taken.
     Fault,
 }
 
@@ -64,7 +66,7 @@ fn read_front<S: Source>(source: &mut S, front: &mut [u8; FRONT_SIZE]) -> Taken
     Taken::Whole
 }
 
-/// Reads one item into the buffer.
+/// Reads one item into the buffer, which may hold anything after another answer than a whole one. It takes no memory.
 pub fn read_item<S: Source>(source: &mut S, item: &mut ItemBuffer) -> Taken
     ensures item { ReadsItem (S.left source.old) (S.left source.new) result (item_of item.new) }
     ensures len { result ≡ Taken.Whole → item.new.len ≤ 4096 }
