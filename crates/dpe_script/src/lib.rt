@@ -12,8 +12,6 @@ mod names;
 mod options;
 mod run;
 mod script;
-#[cfg(test)]
-mod tests;
 mod value;
 mod values;
 
