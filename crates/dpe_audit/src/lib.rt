@@ -9,8 +9,6 @@ mod listing;
 mod reading;
 mod replay;
 mod seed;
-#[cfg(test)]
-mod tests;
 mod texts;
 mod verdict;
 mod words;
