@@ -11,7 +11,5 @@ mod judging;
 mod obeying;
 mod replies;
 mod state;
-#[cfg(test)]
-mod tests;
 
 pub use executor::Core;

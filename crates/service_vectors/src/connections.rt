@@ -17,33 +17,19 @@ const ROOM: usize = 9_000;
 // The locality of all connections here.
 const LOCALITY: u8 = 3;
 
-/// Which calls of a connection and of its entropy fail.
-#[derive(Clone, Copy)]
-pub(crate) struct Failing<'a> {
-    pub(crate) reads: &'a [u32],
-    pub(crate) writes: &'a [u32],
-    pub(crate) draws: &'a [u32],
-}
-
-// No call fails.
-const NONE: Failing<'static> = Failing {
-    reads: &[],
-    writes: &[],
-    draws: &[],
-};
-
-// A connection that sends these bytes in pieces.
+// A connection that sends these bytes in pieces, and of which these reads and writes fail.
 fn conn_of(
     alloc: Global,
     sent: &[u8],
     piece: usize,
-    failing: &Failing<'_>,
+    reads: &[u32],
+    writes: &[u32],
 ) -> Result<MemConn, AllocError>
     requires { 1 ≤ piece }
     ensures { IfOk result IsFaultless }
 {
-    let source = MemSource::new(alloc, sent, piece, failing.reads)?;
-    let sink = MemSink::new(alloc, ROOM, ROOM, failing.writes)?;
+    let source = MemSource::new(alloc, sent, piece, reads)?;
+    let sink = MemSink::new(alloc, ROOM, ROOM, writes)?;
     Ok(MemConn::new(source, sink))
 }
 
@@ -52,12 +38,13 @@ fn add_conn(
     alloc: Global,
     conns: &mut Vec<MemConn>,
     sent: &[u8],
-    failing: &Failing<'_>,
+    reads: &[u32],
+    writes: &[u32],
 ) -> Result<(), AllocError>
     requires { All IsFaultless conns.old.items }
     ensures { OnOk result (All IsFaultless conns.new.items) }
 {
-    conns.push(conn_of(alloc, sent, 7, failing)?)?;
+    conns.push(conn_of(alloc, sent, 7, reads, writes)?)?;
     Ok(())
 }
 
@@ -89,7 +76,9 @@ fn serve_one<R: Wait>(
     capacity: &str,
     sent: &[u8],
     piece: usize,
-    failing: &Failing<'_>,
+    reads: &[u32],
+    writes: &[u32],
+    draws: &[u32],
 ) -> Result<Ended, RowFault>
     requires { 1 ≤ piece }
 {
@@ -98,8 +87,8 @@ fn serve_one<R: Wait>(
     let Ok((desk, mut pass)) = Desk::make(alloc, book, most) else {
         return Err(RowFault::NoMemory(AllocError));
     };
-    let mut conn = conn_of(alloc, sent, piece, failing)?;
-    let mut entropy = MemEntropy::new(alloc, &[[5; 32]], failing.draws)?;
+    let mut conn = conn_of(alloc, sent, piece, reads, writes)?;
+    let mut entropy = MemEntropy::new(alloc, &[[5; 32]], draws)?;
     let mut room = Room::make(alloc)?;
     let end = serve_connection(
         rt,
@@ -142,9 +131,9 @@ pub(crate) fn serve<R: Wait>(
     sent: &[u8],
 ) -> Result<String, RowFault> {
     let [one, seven, all] = PIECES;
-    let first = serve_one(rt, alloc, capacity, sent, one, &NONE)?;
-    let second = serve_one(rt, alloc, capacity, sent, seven, &NONE)?;
-    let third = serve_one(rt, alloc, capacity, sent, all, &NONE)?;
+    let first = serve_one(rt, alloc, capacity, sent, one, &[], &[], &[])?;
+    let second = serve_one(rt, alloc, capacity, sent, seven, &[], &[], &[])?;
+    let third = serve_one(rt, alloc, capacity, sent, all, &[], &[], &[])?;
     let text = shown_whole(alloc, &first)?;
     let second = shown_whole(alloc, &second)?;
     let third = shown_whole(alloc, &third)?;
@@ -161,7 +150,26 @@ fn shown_short(alloc: Global, ended: &Ended) -> Result<String, AllocError> {
     format!(in alloc; "{end}, {} entries, {got} bytes", ended.book.length())
 }
 
-/// The same where each of the first calls, so many, of a kind fails: `reads`, `writes` or `draws`.
+// What comes of it where one call of a kind fails: `reads`, `writes` or `draws`.
+fn serve_without<R: Wait>(
+    rt: &R,
+    alloc: Global,
+    kind: &str,
+    call: u32,
+    piece: usize,
+    sent: &[u8],
+) -> Result<Ended, RowFault>
+    requires { 1 ≤ piece }
+{
+    match kind {
+        "reads" => serve_one(rt, alloc, "2", sent, piece, &[call], &[], &[]),
+        "writes" => serve_one(rt, alloc, "2", sent, piece, &[], &[call], &[]),
+        "draws" => serve_one(rt, alloc, "2", sent, piece, &[], &[], &[call]),
+        _ => Err(RowFault::Unread),
+    }
+}
+
+/// The same over a book of two places where each of the first calls of a kind fails in turn, so many of them.
 pub(crate) fn serve_failing<R: Wait>(
     rt: &R,
     alloc: Global,
@@ -177,23 +185,7 @@ pub(crate) fn serve_failing<R: Wait>(
     }
     let mut runs = Runs::new(alloc);
     for call in 0..calls {
-        let listed = [call];
-        let failing = match kind {
-            "reads" => Failing {
-                reads: &listed,
-                ..NONE
-            },
-            "writes" => Failing {
-                writes: &listed,
-                ..NONE
-            },
-            "draws" => Failing {
-                draws: &listed,
-                ..NONE
-            },
-            _ => return Err(RowFault::Unread),
-        };
-        let ended = serve_one(rt, alloc, "2", sent, piece, &failing)?;
+        let ended = serve_without(rt, alloc, kind, call, piece, sent)?;
         runs.add(call as usize, shown_short(alloc, &ended)?)?;
     }
     Ok(runs.text())
@@ -206,13 +198,14 @@ pub(crate) fn door_of(
     names: &Names,
     words: &[&str],
     nexts: &[u32],
-    failing: &Failing<'_>,
+    reads: &[u32],
+    writes: &[u32],
 ) -> Result<MemDoor, RowFault>
     ensures { IfOk result IsUnused }
 {
     let mut conns = Vec::new(alloc);
     for word in words {
-        add_conn(alloc, &mut conns, &names.bytes(alloc, word)?, failing)?;
+        add_conn(alloc, &mut conns, &names.bytes(alloc, word)?, reads, writes)?;
     }
     Ok(MemDoor::new(alloc, conns, nexts)?)
 }
@@ -258,7 +251,7 @@ pub(crate) fn work<R: Wait>(
     words: &[&str],
 ) -> Result<String, RowFault> {
     let failing = numbers_of(alloc, failing)?;
-    let door = door_of(alloc, names, words, &failing, &NONE)?;
+    let door = door_of(alloc, names, words, &failing, &[], &[])?;
     let (tally, door, book) = work_on(rt, alloc, capacity, number_of(each)?, door)?;
     let failed = if tally.door_failed {
         ", door failed"

@@ -3,7 +3,7 @@ ghost use Rattle.std.specs.Prelude.{◌≡◌, All, IfOk};
 ghost use Rattle.dpe_io.specs.Memory.{IsUnused};
 
 use crate::bytes::{Names, RowFault, numbers_of, shown};
-use crate::connections::{Failing, door_of};
+use crate::connections::door_of;
 use crate::house::Asked;
 use dpe_io::{MemDoor, MemEntropy, MemHouse, MemSink, MemSource};
 use dpe_serve::serve_main;
@@ -120,14 +120,9 @@ fn doors_of(alloc: Global, names: &Names, plan: &Plan<'_>) -> Result<Vec<MemDoor
     ensures { IfOk result (λ doors. All IsUnused doors.items) }
 {
     let fails = &plan.fails;
-    let failing = Failing {
-        reads: &fails.reads,
-        writes: &fails.writes,
-        draws: &[],
-    };
     let mut doors = Vec::new(alloc);
     for sent in &plan.doors {
-        doors.push(door_of(alloc, names, sent, &fails.door, &failing)?)?;
+        doors.push(door_of(alloc, names, sent, &fails.door, &fails.reads, &fails.writes)?)?;
     }
     Ok(doors)
 }

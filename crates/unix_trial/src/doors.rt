@@ -52,7 +52,7 @@ where
 }
 
 /// A door, a link to it, and what stands there before and after.
-pub fn try_a_link_and_a_door<P, R>(rt: &P, net: R)
+pub(crate) fn try_a_link_and_a_door<P, R>(rt: &P, net: R)
 where
     P: Print,
     R: Files<File = File> + Net + Copy + Drop,
@@ -81,7 +81,7 @@ where
 }
 
 /// A listener that doesn't wait fails where no connection waits.
-pub fn try_a_listener_that_does_not_wait<R>(rt: &R)
+pub(crate) fn try_a_listener_that_does_not_wait<R>(rt: &R)
 where
     R: Print + Files<File = File> + Net,
 {

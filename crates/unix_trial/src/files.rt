@@ -5,13 +5,13 @@ use std::net::Net;
 use std::os::unix::fs::PermissionsExt;
 
 /// Prints a fact, and whether it holds.
-pub fn tell<P: Print>(rt: &P, fact: &str, holds: bool) {
+pub(crate) fn tell<P: Print>(rt: &P, fact: &str, holds: bool) {
     let answer = if holds { "yes" } else { "NO" };
     let _ = println!(rt; "{answer} {fact}");
 }
 
 /// Whether one read gives just these bytes.
-pub fn gives<S: Source>(source: &mut S, bytes: &[u8]) -> bool {
+pub(crate) fn gives<S: Source>(source: &mut S, bytes: &[u8]) -> bool {
     let mut room = [0; 64];
     match source.read(&mut room) {
         Ok(count) => &room[..count] == bytes,
@@ -20,13 +20,13 @@ pub fn gives<S: Source>(source: &mut S, bytes: &[u8]) -> bool {
 }
 
 /// Whether a read fails.
-pub fn fails<S: Source>(source: &mut S) -> bool {
+pub(crate) fn fails<S: Source>(source: &mut S) -> bool {
     let mut room = [0; 64];
     source.read(&mut room).is_err()
 }
 
 /// A seed's file, one that isn't there, and a folder in its place.
-pub fn try_a_seed<P, R>(rt: &P, files: R)
+pub(crate) fn try_a_seed<P, R>(rt: &P, files: R)
 where
     P: Print,
     R: Files<File = File> + Net + Copy + Drop,
@@ -59,7 +59,7 @@ where
 }
 
 /// A journal: it is new, its owner's alone, and isn't written over.
-pub fn try_a_journal<P, R>(rt: &P, files: R)
+pub(crate) fn try_a_journal<P, R>(rt: &P, files: R)
 where
     P: Print,
     R: Files<File = File> + Net + Copy + Drop,
@@ -89,7 +89,7 @@ where
 }
 
 /// Words of the system's random bytes, and of a file that ends within a word.
-pub fn try_entropy<P, R>(rt: &P, files: R)
+pub(crate) fn try_entropy<P, R>(rt: &P, files: R)
 where
     P: Print,
     R: Files<File = File> + Net + Copy + Drop,
@@ -123,7 +123,7 @@ where
 }
 
 /// A script.
-pub fn try_a_script<P, R>(rt: &P, files: R)
+pub(crate) fn try_a_script<P, R>(rt: &P, files: R)
 where
     P: Print,
     R: Files<File = File> + Net + Copy + Drop,
@@ -165,7 +165,7 @@ fn gives_places<S: Source>(file: &mut S, end: usize) -> bool {
 }
 
 /// A file that is longer than what is read ahead, and a folder in its place.
-pub fn try_a_shelf<P, R>(rt: &P, files: R)
+pub(crate) fn try_a_shelf<P, R>(rt: &P, files: R)
 where
     P: Print,
     R: Files<File = File> + Copy + Drop,

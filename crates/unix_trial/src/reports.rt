@@ -22,7 +22,7 @@ const MANUAL: Manual = Manual {
 };
 
 /// What is told of faulty words, of a status with a sentence, and of one that has none.
-pub fn try_reports<W: Write + Drop>(output: W) {
+pub(crate) fn try_reports<W: Write + Drop>(output: W) {
     let mut output = WriteSink::new(output);
     for status in [2, 7, 255] {
         let _ = tell(&mut output, &MANUAL, status);

@@ -1,5 +1,6 @@
 //! Rows that read and write commands.
-ghost use Rattle.dpe_messages.specs.CommandRows.{IsCommandWritable};
+ghost use Rattle.std.specs.Prelude.{◌≤◌, length, IfOk, IfSome};
+ghost use Rattle.dpe_messages.specs.CommandRows.{IsCommandWritable, IsShort};
 
 use crate::values::{Answer, RowFault, array, array_or_none, at_most, number_to, show, truth};
 use dpe_messages::{
@@ -196,27 +197,40 @@ fn write_derive(alloc: Global, handle: &str, words: &[&str]) -> Answer {
         "descriptor" => [0; 64],
         _ => return Err(RowFault::Unreadable),
     };
+    let config = config_of(kind, &inline, &bytes);
+    let hidden = hidden.as_ref();
     let derive = Derive {
         handle: &handle,
         code: &code,
-        config: match kind {
-            "config" => Config::Inline(&inline),
-            _ => Config::Descriptor(&bytes),
-        },
+        config,
         authority: &authority,
         mode: number_to(mode, 3)?,
-        hidden: match &hidden {
-            Some(hidden) => Some(hidden),
-            None => None,
-        },
+        hidden,
         retain: truth(retain)?,
         may_derive: truth(may_derive)?,
-        locality: match locality {
-            "none" => None,
-            _ => Some(number_to(locality, 7)?),
-        },
+        locality: locality_or_none(locality)?,
     };
     written(alloc, &Command::Derive(derive))
+}
+
+// The configuration itself, or a descriptor of it.
+fn config_of<'a>(kind: &str, inline: &'a [u8; 64], descriptor: &'a [u8]) -> Config<'a>
+    requires { length descriptor.now ≤ 1024 }
+    ensures { IsShort result }
+{
+    match kind {
+        "config" => Config::Inline(inline),
+        _ => Config::Descriptor(descriptor),
+    }
+}
+
+fn locality_or_none(word: &str) -> Result<Option<u8>, RowFault>
+    ensures { IfOk result (λ locality. IfSome locality (λ number. number ≤ 7)) }
+{
+    match word {
+        "none" => Ok(None),
+        _ => Ok(Some(number_to(word, 7)?)),
+    }
 }
 
 fn written(alloc: Global, command: &Command<'_>) -> Answer

@@ -11,6 +11,9 @@ use std::alloc::Global;
 /// The most bytes that HKDF gives of one key.
 const MAX_OUTPUT: usize = 16_320;
 
+/// How many blocks a key stream has.
+const BLOCKS: u64 = 4_294_967_296;
+
 /// What a row about keys answers.
 pub(crate) fn answer(alloc: Global, words: &[&str]) -> Answer {
     match words {
@@ -83,7 +86,7 @@ fn ciphered(
     mut text: Vec<u8>,
 ) -> Answer {
     let blocks = text.len().div_ceil(64) as u64;
-    if blocks > (1 << 32) - u64::from(counter) {
+    if blocks > BLOCKS - u64::from(counter) {
         return Err(RowFault::Unreadable);
     }
     apply(key, nonce, counter, &mut text);
