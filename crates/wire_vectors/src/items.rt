@@ -87,7 +87,7 @@ fn write(alloc: Global, room: usize, items: &[&str]) -> Answer {
         }
     }
     let len = writer.len();
-    let written = show(alloc, &room[..len])?;
+    let written = show(alloc, room.get(..len).unwrap_or(&[]))?;
     Ok(format!(in alloc; "{written}{refused}")?)
 }
 
