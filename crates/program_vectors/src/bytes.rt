@@ -89,12 +89,12 @@ fn count(
     bytes: &mut Vec<u8>,
     before: &[u8],
     behind: &[u8],
-    times: u64,
+    times: u32,
     in_digits: bool,
 ) -> Result<(), AllocError> {
     for place in 0..times {
         bytes.extend_from_slice(before)?;
-        let four = (place as u32).to_be_bytes();
+        let four = place.to_be_bytes();
         if in_digits {
             bytes.extend_from_slice(hex::encode(alloc, four)?.as_bytes())?;
         } else {
@@ -117,6 +117,9 @@ fn add_piece(alloc: Global, names: &Names, piece: &str, bytes: &mut Vec<u8>) -> 
     };
     match pair {
         Some((before, behind)) => {
+            let Ok(times) = u32::try_from(times) else {
+                return Err(Fault::Unreadable);
+            };
             let before = read_atom(alloc, names, before)?;
             let behind = read_atom(alloc, names, behind)?;
             count(alloc, bytes, &before, &behind, times, in_digits)?;

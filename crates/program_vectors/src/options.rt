@@ -90,8 +90,10 @@ fn call_of(name: &str) -> Result<Call, Fault> {
 
 // Takes a setting, such as `give=5`, `read=3` or `each-read=22`.
 fn set(options: Options, name: &str, number: u64) -> Result<Options, Fault> {
+    let Ok(number) = u32::try_from(number) else {
+        return Err(Fault::Unreadable);
+    };
     let size = number as usize;
-    let number = number as u32;
     if name == "give" {
         return Ok(Options {
             give: size,

@@ -56,8 +56,12 @@ fn show_lines(alloc: Global, text: &mut String, lines: &[Line<'_>]) -> Result<()
 fn show_script(alloc: Global, script: &Script<'_>) -> Result<String, AllocError> {
     let lines = script.lines.as_slice();
     let names = &script.names;
-    let mut text = format!(in alloc; "{} lines, {} handles, {} boxes",
-        lines.len(), names.handles.len(), names.boxes.len())?;
+    let mut text = format!(in alloc;
+        "{} lines, {} handles, {} boxes",
+        lines.len(),
+        names.handles.len(),
+        names.boxes.len()
+    )?;
     if lines.len() <= MOST_LINES {
         show_lines(alloc, &mut text, lines)?;
     }

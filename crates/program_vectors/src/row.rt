@@ -84,12 +84,7 @@ fn job_of<'a>(
 }
 
 // What is told of the bytes of a row's second field, read as a tape or as a script for so many links.
-fn reading_of(
-    alloc: Global,
-    names: &Names,
-    name: &str,
-    fields: &[&str],
-) -> Result<String, Fault> {
+fn reading_of(alloc: Global, names: &Names, name: &str, fields: &[&str]) -> Result<String, Fault> {
     if fields.len() != 2 {
         return Err(Fault::Unreadable);
     }
@@ -114,10 +109,7 @@ pub(crate) fn answer(alloc: Global, names: &mut Names, row: &str) -> Result<Opti
     }
     let fields = fields_of(alloc, text)?;
     match program_of(name) {
-        Some(program) => Ok(Some(outcomes(
-            alloc,
-            &job_of(alloc, names, program, &fields)?,
-        )?)),
+        Some(program) => Ok(Some(outcomes(alloc, &job_of(alloc, names, program, &fields)?)?)),
         None => Ok(Some(reading_of(alloc, names, name, &fields)?)),
     }
 }
