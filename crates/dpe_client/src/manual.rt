@@ -8,7 +8,7 @@ pub const MANUAL: Manual = Manual {
     causes: &[
         Cause {
             status: 2,
-            sentence: "the words aren't of the form below, with 1 to 8 sockets; nothing was opened: mend them",
+            sentence: "the words aren't of the form below, with 1 to 8 sockets and every word UTF-8; nothing was opened: mend them",
         },
         Cause {
             status: 3,
@@ -28,7 +28,7 @@ pub const MANUAL: Manual = Manual {
         },
         Cause {
             status: 14,
-            sentence: "a socket failed, as printed (line 0: it couldn't be opened): see that the server runs, that its path is right, and that you may write to it",
+            sentence: "a socket failed, as printed (line 0: it couldn't be opened; else the line's command may have been executed): see that the server runs, that the path is right, and that you may write to it",
         },
         Cause {
             status: 15,

@@ -4,11 +4,11 @@ use dpe_unix::{Cause, Manual};
 /// The forms of the words, and for each status what went wrong and what to do.
 pub const MANUAL: Manual = Manual {
     name: "dpe_server",
-    usage: "usage: dpe_server SEED JOURNAL EACH ENTRIES FIRST DOOR [DOOR ..]\nexample: dpe_server seed journal 1 8192 1 0:rom 3:kernel\n",
+    usage: "usage: dpe_server SEED JOURNAL EACH ENTRIES FIRST DOOR [DOOR ..]\n       EACH is 1 to 65535, ENTRIES 1 to 65536, FIRST below 2^64, a DOOR is LOCALITY:PATH with a locality 0 to 7\nexample: dpe_server seed journal 1 8192 1 0:rom 3:kernel\n",
     causes: &[
         Cause {
             status: 2,
-            sentence: "the words aren't of the form below, with 1 to 16 doors as LOCALITY:PATH; nothing was opened: mend them",
+            sentence: "the words aren't of the form below, with 1 to 16 doors and every word UTF-8; nothing was opened: mend them",
         },
         Cause {
             status: 3,
@@ -24,7 +24,7 @@ pub const MANUAL: Manual = Manual {
         },
         Cause {
             status: 6,
-            sentence: "the journal couldn't be made or written, and what was answered is lost but for a prefix: see that no file stands at its path, and that the disk has room",
+            sentence: "the journal couldn't be made, and nothing was answered, or it couldn't be written, and has a prefix of what was answered: see that no file stands at its path and that the disk has room, and remove this run's sockets before the next",
         },
         Cause {
             status: 7,

@@ -9,6 +9,7 @@ use crate::report::{Manual, tell};
 use crate::words::{NoStart, program_words};
 use dpe_io::Sink;
 use std::fs::{File, Files};
+use std::io;
 use std::os::fd::AsRawFd;
 use std::process::ExitCode;
 use std::rt::Env;
@@ -16,11 +17,14 @@ use std::rt::Env;
 /// A folder that is always there: a descriptor of it gives no byte to a read and takes none of a write.
 const FOLDER: &str = "/";
 
+/// What serves where that folder can't be opened: opened for reading, it gives no byte to a read and takes none of a write.
+const NOTHING: &str = "/dev/null";
+
 /// The last of the three standard descriptors.
 const LAST_STANDARD: i32 = 2;
 
 /// What stands in the place of standard streams that were closed where the program began, so that no file and no socket
-/// gets their descriptors. Each read and each write of them fails.
+/// gets their descriptors. No byte is read from them, and each write of them fails.
 #[derive(Drop)]
 struct Placeholders {
     first: Option<File>,
@@ -28,10 +32,18 @@ struct Placeholders {
     third: Option<File>,
 }
 
+// Takes the next free descriptor.
+fn next_free<R: Files<File = File>>(rt: &R) -> io::Result<File> {
+    match File::open(rt, FOLDER) {
+        Ok(folder) => Ok(folder),
+        Err(_) => File::open(rt, NOTHING),
+    }
+}
+
 // Takes the next free descriptor, and keeps it where it is one of the standard ones.
 fn placeholder<R: Files<File = File>>(rt: &R) -> Option<File> {
-    match File::open(rt, FOLDER) {
-        Ok(folder) if folder.as_raw_fd() <= LAST_STANDARD => Some(folder),
+    match next_free(rt) {
+        Ok(file) if file.as_raw_fd() <= LAST_STANDARD => Some(file),
         _ => None,
     }
 }
@@ -66,8 +78,8 @@ where
 /// Runs a program's call over the words behind the program's name, and ends with its status: 2 where a word isn't UTF-8,
 /// and 3 where there is no memory for the words. Another status than 0 is told to `errors` (`tell`), as far as it takes it.
 ///
-/// Standard streams that are closed stay closed: no file or socket that the call opens gets a descriptor of theirs, and a
-/// read or a write of them fails.
+/// Standard streams that are closed stay closed: no file or socket that the call opens gets a descriptor of theirs, no byte
+/// is read from them, and a write of them fails. So it is where `/` or `/dev/null` can be opened for reading.
 pub fn run_program<R, K, F>(rt: &R, errors: &mut K, manual: &Manual, call: F) -> ExitCode
 where
     R: Env + AllocGlobal + Files<File = File>,
