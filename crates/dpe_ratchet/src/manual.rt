@@ -20,7 +20,7 @@ pub const MANUAL: Manual = Manual {
         },
         Cause {
             status: 7,
-            sentence: "the output couldn't be written, and a part of it is missing: look at its disk or its reader",
+            sentence: "the output couldn't be written, and a part of it may be missing: look at its disk or its reader",
         },
         Cause {
             status: 30,
@@ -36,7 +36,7 @@ pub const MANUAL: Manual = Manual {
         },
         Cause {
             status: 33,
-            sentence: "the box was sealed at a later version than W, and nothing was written: open it with that firmware",
+            sentence: "the box names a later version than W, and nothing was written: open it with firmware of that version",
         },
         Cause {
             status: 34,

@@ -20,7 +20,7 @@ pub const MANUAL: Manual = Manual {
         },
         Cause {
             status: 7,
-            sentence: "the output couldn't be written, and a part of it is missing: look at its disk or its reader",
+            sentence: "the output couldn't be written, and a part of it may be missing: look at its disk or its reader",
         },
         Cause {
             status: 8,
