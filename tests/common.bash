@@ -51,7 +51,7 @@ make_scratch() {
     failures=0 differences='' scratch=''
     trap clean EXIT
     trap 'exit 1' HUP INT PIPE TERM
-    scratch=$(cd "$OLDPWD" && cd "${TMPDIR:-/tmp}" && mktemp -d "$PWD/dpe.XXXXXXXX") 2>/dev/null
+    scratch=$({ cd "$OLDPWD" && cd "${TMPDIR:-/tmp}" && mktemp -d "$PWD/dpe.XXXXXXXX"; } 2>/dev/null)
     if [ -z "$scratch" ] || ! mkdir "$scratch/running"; then
         echo "${0##*/}: no scratch folder could be made: see TMPDIR" >&2
         exit 1
