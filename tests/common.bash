@@ -25,22 +25,38 @@ with_those_below() {
 is_proved() {
     local program=crates/$1/out/$1 crate part
     local -a read=(crates.txt HANDLES)
-    [ -x "$program" ] || return 1
+    [ -x "$program" ] && [ -f crates.txt ] && [ -f HANDLES ] || return 1
     for crate in $(with_those_below "$1"); do
+        [ -d "crates/$crate/src" ] || return 1
         for part in src specs proofs; do
-            [ ! -d "crates/$crate/$part" ] || read+=("crates/$crate/$part")
+            if [ -d "crates/$crate/$part" ]; then
+                read+=("crates/$crate/$part")
+            elif was_changed "$crate" "$program"; then
+                return 1
+            fi
         done
     done
     [ -z "$(find "${read[@]}" -newer "$program" -print -quit)" ]
 }
 
-# Makes the folder $scratch. It is removed at the end of the script, and processes that still run by then are ended.
+# Whether anything was put in a crate's folder or taken out of it since the program was made, but for the folder `out` that
+# rt makes there.
+was_changed() {
+    [ "crates/$1" -nt "$2" ] && [ "$(stat -c %Y "crates/$1")" != "$(stat -c %W "crates/$1/out" 2>/dev/null)" ]
+}
+
+# Makes the folder $scratch below TMPDIR, which is taken from the caller's folder, and has all that is started make its own
+# folders in it. It is removed at the end of the script, and processes that still run by then are ended.
 make_scratch() {
-    scratch=$(mktemp -d)
-    mkdir "$scratch/running"
-    failures=0 differences=
+    failures=0 differences='' scratch=''
     trap clean EXIT
     trap 'exit 1' HUP INT PIPE TERM
+    scratch=$({ cd "$OLDPWD" && cd "${TMPDIR:-/tmp}" && mktemp -d "$PWD/dpe.XXXXXXXX"; } 2>/dev/null)
+    if [ -z "$scratch" ] || ! mkdir "$scratch/running"; then
+        echo "${0##*/}: no scratch folder could be made: see TMPDIR" >&2
+        exit 1
+    fi
+    export TMPDIR=$scratch
 }
 
 started() {
@@ -51,10 +67,13 @@ ended() {
     rm -f "$scratch/running/$1"
 }
 
+# Ends what still runs, waits for at most ten seconds until it has ended, and removes the folder.
 clean() {
-    local pid
-    for pid in $(ls "$scratch/running"); do
+    local pid tries=100
+    [ -n "$scratch" ] || return
+    for pid in $(ls "$scratch/running" 2>/dev/null); do
         kill "$pid" 2>/dev/null
+        while kill -0 "$pid" 2>/dev/null && [ "$((tries -= 1))" -gt 0 ]; do sleep 0.1; done
     done
     rm -rf "$scratch"
 }
@@ -81,12 +100,12 @@ joined() {
     tr '\n' ' ' <"$1"
 }
 
-# Runs one of the programs in $bin, for at most 60 seconds, with its output in the files out and err, and notes it where its
+# Runs one of the programs in $bin, for at most 120 seconds, with its output in the files out and err, and notes it where its
 # status isn't the wanted one, or the end of what it says isn't as the status wants it.
 run() {
     local wanted=$1 name=$2 status=0 last=
     shift 2
-    timeout --foreground 60 "$bin/$name" "$@" >out 2>err || status=$?
+    timeout --foreground 120 "$bin/$name" "$@" >out 2>err || status=$?
     [ "$wanted" = 0 ] || last="$name: status $wanted"
     want "status of $name" "$wanted" "$status"
     want "last line of $name on standard error" "$last" "$(tail -n 1 err)"
@@ -95,7 +114,7 @@ run() {
 # Starts the server over the file seed, and waits for at most ten seconds until the last door's socket is there.
 serve() {
     local tries=100 door=${*: -1}
-    timeout 120 "$bin/dpe_server" seed "$@" >summary 2>server.err &
+    timeout 240 "$bin/dpe_server" seed "$@" >summary 2>server.err &
     server=$!
     started "$server"
     until [ -S "${door#*:}" ] || [ "$tries" = 0 ]; do
