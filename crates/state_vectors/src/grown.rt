@@ -180,7 +180,7 @@ impl Grown {
 
     fn tell(&self, alloc: Global, context: &str) -> Result<String, Fault> {
         let place = self.place(context)?;
-        if !is_used(&self.tree, &self.places, place) {
+        if place.0 >= MOST_PLACES || !is_used(&self.tree, &self.places, place) {
             return Err(Fault::Unmet);
         }
         let depth = self.tree.depth(place);

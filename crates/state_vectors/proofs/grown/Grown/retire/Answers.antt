@@ -1,4 +1,4 @@
-use Rattle.std.proofs.Common.{arith}
+use Rattle.std.proofs.Common.{arith, refl}
 use Rattle.state_vectors.proofs.Births.{retired_before}
 use Rattle.state_vectors.proofs.grown.Grown.retire.Goals as goal
 
@@ -11,7 +11,7 @@ invariant_of-self c =
     let most = was.most in
     let one = after.live in
     record {
-      births = retired_before i.tree c.retire.new.self c.args.place.0 i.next c.if-not-is_live.ensures.live after.tree was.births;
+      births = retired_before i.tree c.retire.new.self c.args.place.0 i.next (c.if-not-is_live.ensures.live refl) after.tree was.births;
       many = omega arith;
       most = omega arith;
     }
