@@ -102,10 +102,10 @@ impl Duplex for MemConn {
     ghost use Rattle.std.specs.Prelude.{refl};
 
     ghost told = { λ c. record {
-        left = Some c.source.left;
-        written = Some c.sink.bytes;
-        read_faults = c.source.faults;
-        write_faults = c.sink.faults;
+      left = Some c.source.left;
+      written = Some c.sink.bytes;
+      read_faults = c.source.faults;
+      write_faults = c.sink.faults;
     } };
 
     ghost told_is = { λ _. refl };

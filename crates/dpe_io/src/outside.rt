@@ -11,10 +11,10 @@ pub trait Duplex: Source + Sink {
     ghost told: { Self → Told };
 
     ghost told_is: { (x : Self) → told x ≡ record {
-        left = Self.Source.left x;
-        written = Self.Sink.bytes x;
-        read_faults = Self.Source.faults x;
-        write_faults = Self.Sink.faults x;
+      left = Self.Source.left x;
+      written = Self.Sink.bytes x;
+      read_faults = Self.Source.faults x;
+      write_faults = Self.Sink.faults x;
     } };
 
     ghost beside_source: { (x : Self) → Self.Source.beside x ≡ record { bytes = Self.Sink.bytes x; faults = Self.Sink.faults x } };

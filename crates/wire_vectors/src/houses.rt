@@ -13,37 +13,49 @@ use std::alloc::{AllocError, Global};
 /// What a row about objects that open others answers.
 pub(crate) fn answer(alloc: Global, words: &[&str]) -> Answer {
     match words {
-        ["door", listed, calls, waiting @ ..] => {
-            let waiting = connections(alloc, waiting)?;
-            let mut door = MemDoor::new(alloc, waiting, &failing(alloc, listed)?)?;
-            let answers = serve_all(alloc, &mut door, number(calls)?)?;
-            let ended = written(alloc, door.ended())?;
-            Ok(format!(in alloc; "{answers}; ended {ended}, faults {}", door.faults())?)
-        }
-        ["house", listed, visits] => {
-            let mut house = one_door(alloc, &failing(alloc, listed)?)?;
-            let answers = visit_all(alloc, &mut house, number(visits)?)?;
-            let back = handed_back(alloc, &house)?;
-            Ok(format!(in alloc; "{answers}; {back}")?)
-        }
-        ["shelf", listed, calls, given @ ..] => {
-            let mut files = Vec::new(alloc);
-            for file in given {
-                files.push(MemSource::new(alloc, &bytes(alloc, file)?, 4, &[])?)?;
-            }
-            let mut shelf = MemShelf::new(alloc, files, &failing(alloc, listed)?)?;
-            read_files(alloc, &mut shelf, number(calls)?)
-        }
-        ["dock", listed, calls, script] => {
-            let script = MemSource::new(alloc, &bytes(alloc, script)?, 4, &[])?;
-            let links = connections(alloc, &["-"])?;
-            let mut dock = MemDock::new(alloc, script, links, &failing(alloc, listed)?)?;
-            let answers = call_all(alloc, &mut dock, number(calls)?)?;
-            let links = written(alloc, dock.links())?;
-            Ok(format!(in alloc; "{answers}; links {links}")?)
-        }
+        ["door", listed, calls, waiting @ ..] => door_row(alloc, listed, calls, waiting),
+        ["house", listed, visits] => house_row(alloc, listed, visits),
+        ["shelf", listed, calls, given @ ..] => shelf_row(alloc, listed, calls, given),
+        ["dock", listed, calls, script] => dock_row(alloc, listed, calls, script),
         _ => Err(RowFault::Unreadable),
     }
+}
+
+// A door at which these connections wait, served so many times.
+fn door_row(alloc: Global, listed: &str, calls: &str, waiting: &[&str]) -> Answer {
+    let waiting = connections(alloc, waiting)?;
+    let mut door = MemDoor::new(alloc, waiting, &failing(alloc, listed)?)?;
+    let answers = serve_all(alloc, &mut door, number(calls)?)?;
+    let ended = written(alloc, door.ended())?;
+    Ok(format!(in alloc; "{answers}; ended {ended}, faults {}", door.faults())?)
+}
+
+// A house, visited so many times.
+fn house_row(alloc: Global, listed: &str, visits: &str) -> Answer {
+    let mut house = one_door(alloc, &failing(alloc, listed)?)?;
+    let answers = visit_all(alloc, &mut house, number(visits)?)?;
+    let back = handed_back(alloc, &house)?;
+    Ok(format!(in alloc; "{answers}; {back}")?)
+}
+
+// A shelf of these files, asked so many times.
+fn shelf_row(alloc: Global, listed: &str, calls: &str, given: &[&str]) -> Answer {
+    let mut files = Vec::new(alloc);
+    for file in given {
+        files.push(MemSource::new(alloc, &bytes(alloc, file)?, 4, &[])?)?;
+    }
+    let mut shelf = MemShelf::new(alloc, files, &failing(alloc, listed)?)?;
+    read_files(alloc, &mut shelf, number(calls)?)
+}
+
+// A dock with this script and one link, asked so many times.
+fn dock_row(alloc: Global, listed: &str, calls: &str, script: &str) -> Answer {
+    let script = MemSource::new(alloc, &bytes(alloc, script)?, 4, &[])?;
+    let links = connections(alloc, &["-"])?;
+    let mut dock = MemDock::new(alloc, script, links, &failing(alloc, listed)?)?;
+    let answers = call_all(alloc, &mut dock, number(calls)?)?;
+    let links = written(alloc, dock.links())?;
+    Ok(format!(in alloc; "{answers}; links {links}")?)
 }
 
 // A connection that reads these bytes.
