@@ -122,6 +122,20 @@ fn shown_whole(alloc: Global, ended: &Ended) -> Result<String, AllocError> {
     Ok(text)
 }
 
+// What comes of a connection that gives so many bytes in a read.
+fn served<R: Wait>(
+    rt: &R,
+    alloc: Global,
+    capacity: &str,
+    sent: &[u8],
+    piece: usize,
+) -> Result<String, RowFault>
+    requires { 1 ≤ piece }
+{
+    let ended = serve_one(rt, alloc, capacity, sent, piece, &[], &[], &[])?;
+    Ok(shown_whole(alloc, &ended)?)
+}
+
 /// What comes of a connection over a book of so many places, at locality 3. Its first random bytes are fives, and then
 /// zeros.
 pub(crate) fn serve<R: Wait>(
@@ -131,12 +145,9 @@ pub(crate) fn serve<R: Wait>(
     sent: &[u8],
 ) -> Result<String, RowFault> {
     let [one, seven, all] = PIECES;
-    let first = serve_one(rt, alloc, capacity, sent, one, &[], &[], &[])?;
-    let second = serve_one(rt, alloc, capacity, sent, seven, &[], &[], &[])?;
-    let third = serve_one(rt, alloc, capacity, sent, all, &[], &[], &[])?;
-    let text = shown_whole(alloc, &first)?;
-    let second = shown_whole(alloc, &second)?;
-    let third = shown_whole(alloc, &third)?;
+    let text = served(rt, alloc, capacity, sent, one)?;
+    let second = served(rt, alloc, capacity, sent, seven)?;
+    let third = served(rt, alloc, capacity, sent, all)?;
     if text.as_str() != second.as_str() || text.as_str() != third.as_str() {
         return Ok(String::from_str(alloc, DIFFERS)?);
     }

@@ -8,16 +8,48 @@ use std::alloc::{AllocError, Global};
 use std::sync::Wait;
 
 // A pass as it is printed: its name, its stake, and how many passes it stands for.
-fn shown_pass(alloc: Global, pass: &Pass<Book>) -> Result<String, AllocError> {
-    format!(in alloc; "pass {} {} {}", pass.name(), pass.stake(), pass.held())
+#[derive(Drop)]
+struct Shown {
+    name: u32,
+    stake: u32,
+    held: u32,
 }
 
-// What a call is answered.
-fn shown_place(alloc: Global, place: Result<u64, Full>) -> Result<String, AllocError> {
-    match place {
-        Ok(place) => format!(in alloc; "place {place}"),
-        Err(Full { ticket }) => format!(in alloc; "full {ticket}"),
+impl Shown {
+    fn of(pass: &Pass<Book>) -> Shown {
+        Shown {
+            name: pass.name(),
+            stake: pass.stake(),
+            held: pass.held(),
+        }
     }
+}
+
+// Appends passes.
+fn add_passes(text: &mut String, passes: &[Shown]) -> Result<(), AllocError> {
+    for Shown { name, stake, held } in passes {
+        write!(text, "pass {name} {stake} {held}, ")?;
+    }
+    Ok(())
+}
+
+// Appends what calls were answered.
+fn add_places(text: &mut String, places: &[Result<u64, Full>]) -> Result<(), AllocError> {
+    for place in places {
+        match place {
+            Ok(place) => write!(text, "place {place}, ")?,
+            Err(Full { ticket }) => write!(text, "full {ticket}, ")?,
+        }
+    }
+    Ok(())
+}
+
+// Appends the callers of a book's entries, and the last reply.
+fn add_book(alloc: Global, text: &mut String, book: &Book, reply: &[u8]) -> Result<(), AllocError> {
+    for at in 0..book.length() {
+        write!(text, "caller {}, ", book.entry(at).caller)?;
+    }
+    write!(text, "reply {}", shown(alloc, reply)?)
 }
 
 /// A desk over an empty book, both of so many places. A second pass is split off with a stake of 1. Each pass makes the
@@ -39,33 +71,27 @@ pub(crate) fn share<R: Wait>(
     let mut reply = Packet::new();
     let (desk, mut first) = open(alloc, &[0; 32], 1, capacity)?;
     let mut second = desk.split(&mut first, 1);
-    let mut text = format!(in alloc;
-        "{}, {}",
-        shown_pass(alloc, &first)?,
-        shown_pass(alloc, &second)?
-    )?;
-    let place = desk.act(rt, &mut first, &call, &mut reply);
-    write!(text, ", {}", shown_place(alloc, place)?)?;
-    let place = desk.act(rt, &mut second, &call, &mut reply);
-    write!(
-        text,
-        ", {}, length {}",
-        shown_place(alloc, place)?,
-        desk.length(&mut first)
-    )?;
-    let place = desk.act(rt, &mut first, &call, &mut reply);
-    write!(text, ", {}", shown_place(alloc, place)?)?;
-    let place = desk.act(rt, &mut first, &call, &mut reply);
-    write!(text, ", {}", shown_place(alloc, place)?)?;
-    let place = desk.act(rt, &mut second, &call, &mut reply);
-    write!(text, ", {}", shown_place(alloc, place)?)?;
+    let begun = [Shown::of(&first), Shown::of(&second)];
+    let one_each = [
+        desk.act(rt, &mut first, &call, &mut reply),
+        desk.act(rt, &mut second, &call, &mut reply),
+    ];
+    let length = desk.length(&mut first);
+    let more = [
+        desk.act(rt, &mut first, &call, &mut reply),
+        desk.act(rt, &mut first, &call, &mut reply),
+        desk.act(rt, &mut second, &call, &mut reply),
+    ];
     desk.meet(&mut first, &mut second);
     desk.join(&mut first, second);
-    write!(text, ", {}", shown_pass(alloc, &first)?)?;
+    let joined = [Shown::of(&first)];
     let book = desk.close(first);
-    for at in 0..book.length() {
-        write!(text, ", caller {}", book.entry(at).caller)?;
-    }
-    write!(text, ", reply {}", shown(alloc, reply.bytes())?)?;
+    let mut text = String::new(alloc);
+    add_passes(&mut text, &begun)?;
+    add_places(&mut text, &one_each)?;
+    write!(text, "length {length}, ")?;
+    add_places(&mut text, &more)?;
+    add_passes(&mut text, &joined)?;
+    add_book(alloc, &mut text, &book, reply.bytes())?;
     Ok(text)
 }
