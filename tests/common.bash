@@ -1,4 +1,4 @@
-# What ./demo, ./install and tests/installed share: which programs are proved here, a scratch folder, and checks of one line.
+# What ./demo, ./install and the scripts of tests/ share: which programs are proved here, a scratch folder, and checks of one line.
 # It is sourced from the top of the repository, by bash.
 
 PROGRAMS=(dpe_server dpe_client dpe_replay dpe_batch)
