@@ -1,6 +1,6 @@
 //! Rows of doors, houses, shelves and docks in memory: what comes of opening and serving, and what was handed back.
-ghost use Rattle.std.specs.Prelude.{IfOk, All};
-ghost use Rattle.dpe_io.specs.Memory.{IsFaultless};
+ghost use Rattle.std.specs.Prelude.{◌≡◌, IfOk, All};
+ghost use Rattle.dpe_io.specs.Memory.{IsFaultless, IsUnused};
 
 use crate::outside::put;
 use crate::values::{Answer, RowFault, bytes, failing, number, show};
@@ -120,16 +120,32 @@ fn serve_all<D: Door>(alloc: Global, door: &mut D, calls: u32) -> Result<String,
     Ok(answers)
 }
 
-// A house whose seed has three bytes, with a door at which one connection waits whose first write fails.
-fn one_door(alloc: Global, failing: &[u32]) -> Result<MemHouse, AllocError> {
-    let seed = MemSource::new(alloc, &[5; 3], 8, &[])?;
-    let journal = MemSink::new(alloc, 8, 8, &[])?;
+// A door at which one connection waits whose first write fails.
+fn waited_at(alloc: Global) -> Result<Vec<MemDoor>, AllocError>
+    ensures { IfOk result (λ doors. All IsUnused doors.items) }
+{
     let mut waiting = Vec::new(alloc);
     waiting.push(connection(alloc, &[3, 4], &[0])?)?;
     let mut doors = Vec::new(alloc);
     doors.push(MemDoor::new(alloc, waiting, &[])?)?;
+    Ok(doors)
+}
+
+// One entropy, of one word.
+fn one_word(alloc: Global) -> Result<Vec<MemEntropy>, AllocError>
+    ensures { IfOk result (λ entropies. All (λ entropy. entropy.faults ≡ 0) entropies.items) }
+{
     let mut entropies = Vec::new(alloc);
     entropies.push(MemEntropy::new(alloc, &[[1; 32]], &[])?)?;
+    Ok(entropies)
+}
+
+// A house whose seed has three bytes, with one door and one entropy.
+fn one_door(alloc: Global, failing: &[u32]) -> Result<MemHouse, AllocError> {
+    let doors = waited_at(alloc)?;
+    let entropies = one_word(alloc)?;
+    let seed = MemSource::new(alloc, &[5; 3], 8, &[])?;
+    let journal = MemSink::new(alloc, 8, 8, &[])?;
     MemHouse::new(alloc, seed, journal, doors, entropies, failing)
 }
 
