@@ -2,11 +2,13 @@
 ghost use Rattle.std.specs.Prelude.{IfOk};
 ghost use Rattle.dpe_io.specs.Memory.{IsUnused};
 
-use super::raw::INITIALIZE;
-use dpe_io::{MemConn, MemDoor, MemEntropy, MemHouse, MemSink, MemSource};
+use crate::programs::{tell, tell_status};
+use crate::raw::INITIALIZE;
+use dpe_io::{MemConn, MemDoor, MemEntropy, MemHouse, MemSink, MemSource, WriteSink};
 use dpe_serve::serve_main;
 use std::alloc::{AllocError, Global};
-use std::test::Fail;
+use std::sync::Wait;
+use std::thread::Threads;
 
 // The frame of code 5.
 static SEED_LOCKED: [u8; 10] = [0, 0, 0, 6, 0x82, 0x00, 0x43, 0x82, 0x05, 0xa0];
@@ -22,12 +24,7 @@ static OF_TWOS: [u8; 28] = [
     2, 2, 2, 2, 2,
 ];
 
-static SUMMARY: &str = "connections 2
-commands 2
-refused 1
-full 0
-cut 0
-";
+static WORDS: [&str; 7] = ["s", "j", "1", "4", "1", "0:p", "0:q"];
 
 // A door at which one connection asks for the root.
 fn door_of(alloc: Global) -> Result<MemDoor, AllocError>
@@ -56,18 +53,25 @@ fn got(house: &MemHouse, door: usize) -> Option<&[u8]> {
     Some(conn.sink().bytes())
 }
 
-#[test]
-fn one_of_two_workers_makes_the_root(rt: HostRuntime) -> Result<(), Fail> {
-    let alloc = rt.alloc();
-    let mut house = house_of(alloc)?;
-    let mut out = MemSink::new(alloc, 200, 200, &[])?;
-    let words = ["s", "j", "1", "4", "1", "0:p", "0:q"];
-    let status = serve_main(&rt, alloc, &words, &mut house, &mut out);
-    assert_eq!(rt; (status, out.bytes()), (0, SUMMARY.as_bytes()));
-    let got = (got(&house, 0), got(&house, 1));
+// Whether one of two connections got the root, with random bytes of its own entropy, and the other a refusal.
+fn just_one_made_it(house: &MemHouse) -> bool {
     let locked = Some(SEED_LOCKED.as_slice());
-    let first = (Some(OF_ONES.as_slice()), locked);
-    let second = (locked, Some(OF_TWOS.as_slice()));
-    assert!(rt; got == first || got == second);
-    Ok(())
+    let (one, other) = (got(house, 0), got(house, 1));
+    one == Some(OF_ONES.as_slice()) && other == locked
+        || one == locked && other == Some(OF_TWOS.as_slice())
+}
+
+/// Two workers at one root.
+pub(crate) fn try_pair<R: Threads + Wait + Sync>(rt: &R, host: HostRuntime) {
+    let Ok(mut house) = house_of(host.alloc()) else {
+        return;
+    };
+    let mut out = WriteSink::new(host.stdout());
+    let status = serve_main(rt, host.alloc(), &WORDS, &mut house, &mut out);
+    tell_status(host, "the server in memory", status);
+    tell(
+        host,
+        "just one of two workers makes the root, of random bytes of its own",
+        just_one_made_it(&house),
+    );
 }

@@ -1,13 +1,14 @@
 // A desk one of whose callers is within its turn for long. The others go on with all that is no call of the object.
-ghost use Rattle.std.specs.Prelude.{◌+◌, ◌≤◌};
+ghost use Rattle.std.specs.Prelude.{◌≡◌, ◌+◌, ◌≤◌, false};
 ghost use Rattle.dpe_desk.specs.Passes.{Belongs};
 ghost use Rattle.dpe_desk.specs.Views.{held};
 
+use crate::programs::tell;
 use dpe_desk::{Desk, Entry, Pass, Sequential};
+use std::hint;
 use std::sync::Wait;
 use std::sync::atomic::{AtomicU32, Ordering};
-use std::test::Fail;
-use std::{hint, thread};
+use std::thread::{self, Threads};
 
 // How often a thread looks whether the other has come so far: a second or so.
 const MOST_TURNS: u32 = 100_000_000;
@@ -69,6 +70,22 @@ impl<'a> Sequential for Held<'a> {
     ghost legal_prefix = { λ _ _ _ _. tt };
 }
 
+// An object that waits for the second flag once it has raised the first one.
+fn held_by<'a>(begun: &'a AtomicU32, let_go: &'a AtomicU32) -> Held<'a>
+    ensures { result.stepped ≡ false }
+{
+    Held {
+        begun,
+        let_go,
+        stepped: false,
+        last: Entry {
+            caller: 0,
+            call: 0,
+            reply: 0,
+        },
+    }
+}
+
 // Makes the call, and tells its reply.
 fn act<'a, R: Wait>(rt: &R, desk: &Desk<Held<'a>>, pass: &mut Pass<Held<'a>>) -> u32
     requires { Belongs desk.now pass.old }
@@ -101,29 +118,22 @@ fn go_on<'a>(
     Some(length)
 }
 
-#[test]
-fn only_a_call_waits_for_a_turn(rt: HostRuntime) -> Result<(), Fail> {
+/// The turn, and the calls that don't wait for its end.
+pub(crate) fn try_turn<R: Threads + Wait + Sync>(rt: &R, host: HostRuntime) {
     let begun = AtomicU32::new(0);
     let let_go = AtomicU32::new(0);
-    let object = Held {
-        begun: &begun,
-        let_go: &let_go,
-        stepped: false,
-        last: Entry {
-            caller: 0,
-            call: 0,
-            reply: 0,
-        },
-    };
-    let Ok((desk, mut first)) = Desk::make(rt.alloc(), object, 1) else {
-        return Err(Fail::new("no memory"));
+    let Ok((desk, mut first)) = Desk::make(host.alloc(), held_by(&begun, &let_go), 1) else {
+        return;
     };
     let mut second = desk.split(&mut first, 2);
     let (reply, length) = thread::join(
-        &rt,
-        || act(&rt, &desk, &mut first),
+        rt,
+        || act(rt, &desk, &mut first),
         || go_on(&desk, &mut second, &begun, &let_go),
     );
-    assert_eq!(rt; (reply, length), (1, Some(0)));
-    Ok(())
+    tell(
+        host,
+        "a length, a split, a meeting and a join are made within another caller's turn",
+        reply == 1 && length == Some(0),
+    );
 }
