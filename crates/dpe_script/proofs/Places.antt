@@ -1,5 +1,5 @@
 -- Names, their places, and what stands there.
-use Rattle.std.proofs.Common.{◌≡◌, ℕ, zero, suc, ◌+◌, ◌<◌, ◌≤◌, Bool, true, false, List, [], ◌∷◌, length, drop, get_or, replicate, Option, Some, None, refl, sym, ap, ◌∙◌, arith}
+use Rattle.std.proofs.Common.{◌≡◌, ℕ, zero, suc, ◌+◌, ◌<◌, ◌≤◌, Bool, true, false, List, [], ◌∷◌, length, drop, get_or, replicate, Option, Some, None, refl, ap, ◌∙◌, arith}
 use Rattle.std.proofs.lemmas.List.Elements.{All-replicate}
 use Rattle.std.specs.Option.{option_map, option_and_then, unwrap_or}
 use Rattle.std.specs.Prelude.{slice_get, bytes_eq}
@@ -8,13 +8,6 @@ use Rattle.std.specs.Borrow.{Bor}
 use Rattle.dpe_script.specs.Values.{texts}
 use Rattle.dpe_script.proofs.Lists.{texts_step}
 use Rattle.dpe_script.specs.CodeValues.{place_of, found, AreShort}
-
-shift_zero : (o : Option ℕ) → option_map (λ (k : ℕ). 0 + k) o ≡ o
-shift_zero None = refl
-shift_zero (Some k) = ap (λ (n : ℕ). Some n) (omega arith)
-
-pub place_start : (o : Option ℕ) → o ≡ option_map (λ (k : ℕ). 0 + k) o
-place_start o = sym (shift_zero o)
 
 pub shift_more : (at : ℕ) (o : Option ℕ) → option_map (λ (k : ℕ). at + k) (option_map suc o) ≡ option_map (λ (k : ℕ). at + 1 + k) o
 shift_more at None = refl

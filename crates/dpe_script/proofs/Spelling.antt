@@ -1,26 +1,17 @@
 -- Byte strings in hexadecimal digits.
-use Rattle.std.proofs.Common.{◌≡◌, ℕ, ◌*◌, ◌/◌, ◌%◌, ◌<◌, ◌≤◌, List, [], length, None, Result, Ok, Err, refl, sym, ◌∙◌, arith, ◌⊎◌, inl, inr}
-use Rattle.std.proofs.lemmas.Bool.{cases_eq}
+use Rattle.std.proofs.Common.{◌≡◌, ℕ, ◌*◌, ◌/◌, ◌<◌, ◌≤◌, List, [], length, None, Result, Ok, Err, refl, arith, ◌⊎◌, inl, inr}
 use Rattle.std.specs.Result.{result_ok}
 use Rattle.std.specs.Option.{option_and_then}
 use Rattle.std.proofs.lemmas.Bool.Decides.{nat_tests}
-use Rattle.hex.specs.Hex.{decode_of, decode_sized}
+use Rattle.hex.specs.Hex.{decode_of}
 use Rattle.hex.specs.declared.error.FromHexError.{FromHexError}
-use Rattle.hex.proofs.HexLemmas.{decode_of-odd, decode_of-ok, decode_sized-odd, decode_sized-twice}
+use Rattle.hex.proofs.HexLemmas.{decode_of-ok}
 use Rattle.std.specs.Option.{unwrap_or}
 use Rattle.hex.specs.Hex.{decode_pairs}
 use Rattle.std.proofs.Common.{subst, replicate}
 use Rattle.dpe_script.specs.declared.value.Value.{Value}
 use Rattle.dpe_script.specs.declared.value.Value.TheVariants.{Repeated}
 use Rattle.dpe_script.specs.Values.{sized, spelt_by, value_of}
-
--- half as many bytes as digits: what decodes into them is what decodes
-pub decode_half : (text : List ℕ) → decode_sized text (length text / 2) ≡ decode_of text
-decode_half text =
-    elim (cases_eq (length text % 2) 1) [
-      | inl odd ↦ decode_sized-odd text (length text / 2) odd ∙ sym (decode_of-odd text odd)
-      | inr even ↦ decode_sized-twice text (length text / 2) (omega arith)
-    ]
 
 -- digits for too few bytes or too many
 pub out_of_range : (text : List ℕ) (least most : ℕ) (r : Result (List ℕ) FromHexError) → decode_of text ≡ r → (length text / 2 < least) ⊎ (most < length text / 2)

@@ -83,6 +83,20 @@ fn repeat(bytes: &mut Vec<u8>, atom: &[u8], times: u64) -> Result<(), AllocError
     Ok(())
 }
 
+// Appends the four bytes of a count, or the digits of these.
+fn add_count(
+    alloc: Global,
+    bytes: &mut Vec<u8>,
+    place: u32,
+    in_digits: bool,
+) -> Result<(), AllocError> {
+    let four = place.to_be_bytes();
+    if in_digits {
+        return bytes.extend_from_slice(hex::encode(alloc, four)?.as_bytes());
+    }
+    bytes.extend_from_slice(&four)
+}
+
 // Appends two atoms so many times, with a count between them.
 fn count(
     alloc: Global,
@@ -94,14 +108,27 @@ fn count(
 ) -> Result<(), AllocError> {
     for place in 0..times {
         bytes.extend_from_slice(before)?;
-        let four = place.to_be_bytes();
-        if in_digits {
-            bytes.extend_from_slice(hex::encode(alloc, four)?.as_bytes())?;
-        } else {
-            bytes.extend_from_slice(&four)?;
-        }
+        add_count(alloc, bytes, place, in_digits)?;
         bytes.extend_from_slice(behind)?;
     }
+    Ok(())
+}
+
+// Appends the atoms of a pair so many times, with a count between them.
+fn add_pair(
+    alloc: Global,
+    names: &Names,
+    pair: (&str, &str),
+    times: u64,
+    in_digits: bool,
+    bytes: &mut Vec<u8>,
+) -> Result<(), Fault> {
+    let Ok(times) = u32::try_from(times) else {
+        return Err(Fault::Unreadable);
+    };
+    let before = read_atom(alloc, names, pair.0)?;
+    let behind = read_atom(alloc, names, pair.1)?;
+    count(alloc, bytes, &before, &behind, times, in_digits)?;
     Ok(())
 }
 
@@ -111,21 +138,13 @@ fn add_piece(alloc: Global, names: &Names, piece: &str, bytes: &mut Vec<u8>) -> 
         Some((atoms, digits)) => (atoms, read_number(digits)?),
         None => (piece, 1),
     };
-    let (in_digits, pair) = match atoms.split_once('&') {
-        Some(pair) => (true, Some(pair)),
-        None => (false, atoms.split_once('%')),
-    };
-    match pair {
-        Some((before, behind)) => {
-            let Ok(times) = u32::try_from(times) else {
-                return Err(Fault::Unreadable);
-            };
-            let before = read_atom(alloc, names, before)?;
-            let behind = read_atom(alloc, names, behind)?;
-            count(alloc, bytes, &before, &behind, times, in_digits)?;
-        }
-        None => repeat(bytes, &read_atom(alloc, names, atoms)?, times)?,
+    if let Some(pair) = atoms.split_once('&') {
+        return add_pair(alloc, names, pair, times, true, bytes);
     }
+    if let Some(pair) = atoms.split_once('%') {
+        return add_pair(alloc, names, pair, times, false, bytes);
+    }
+    repeat(bytes, &read_atom(alloc, names, atoms)?, times)?;
     Ok(())
 }
 
@@ -168,31 +187,40 @@ fn is_seen(byte: &u8) -> bool {
     *byte == b'\n' || (b' '..=b'~').contains(byte)
 }
 
-// Appends bytes of which each is seen, as a text.
-fn show_text(text: &mut String, bytes: &[u8]) -> Result<(), AllocError> {
-    text.push('\'')?;
-    for byte in bytes {
-        if *byte == b'\n' {
-            text.push_str("\\n")?;
-        } else {
-            text.push(char::from(*byte))?;
-        }
+// Appends a byte that is seen.
+fn push_seen(text: &mut String, byte: u8) -> Result<(), AllocError> {
+    if byte == b'\n' {
+        return text.push_str("\\n");
     }
-    Ok(())
+    text.push(char::from(byte))
 }
 
-/// Appends bytes as a row writes them, or their number and SHA-512 where they are many.
-pub(crate) fn show(alloc: Global, text: &mut String, bytes: &[u8]) -> Result<(), AllocError> {
+// Bytes of which each is seen, as a text.
+fn text_of(alloc: Global, bytes: &[u8]) -> Result<String, AllocError> {
+    let mut text = String::new(alloc);
+    text.push('\'')?;
+    for byte in bytes {
+        push_seen(&mut text, *byte)?;
+    }
+    Ok(text)
+}
+
+// The number of bytes and their SHA-512.
+fn digest_of(alloc: Global, bytes: &[u8]) -> Result<String, AllocError> {
+    let digest = hex::encode(alloc, Sha512::digest(bytes))?;
+    format!(in alloc; "{} bytes of SHA-512 {digest}", bytes.len())
+}
+
+/// Bytes as a row writes them, or their number and SHA-512 where they are many.
+pub(crate) fn shown(alloc: Global, bytes: &[u8]) -> Result<String, AllocError> {
     if bytes.is_empty() {
-        return text.push('-');
+        return String::from_str(alloc, "-");
     }
     if bytes.len() > MOST_SHOWN {
-        let digest = hex::encode(alloc, Sha512::digest(bytes))?;
-        let line = format!(in alloc; "{} bytes of SHA-512 {digest}", bytes.len())?;
-        return text.push_str(line.as_str());
+        return digest_of(alloc, bytes);
     }
     if bytes.iter().all(is_seen) {
-        return show_text(text, bytes);
+        return text_of(alloc, bytes);
     }
-    text.push_str(hex::encode(alloc, bytes)?.as_str())
+    hex::encode(alloc, bytes)
 }

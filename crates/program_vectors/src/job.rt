@@ -13,7 +13,7 @@ use dpe_tape::batch_main;
 use std::alloc::{AllocError, Global};
 
 /// A program.
-#[derive(Clone, Copy, Debug, PartialEq, Eq)]
+#[derive(Clone, Copy)]
 pub enum Program {
     Batch,
     Client,

@@ -3,7 +3,7 @@ use crate::bytes::read_number;
 use crate::row::Fault;
 
 /// The calls of one kind.
-#[derive(Clone, Copy, Debug, PartialEq, Eq)]
+#[derive(Clone, Copy)]
 pub enum Call {
     /// The openings.
     Open,
@@ -70,22 +70,25 @@ impl Options {
 
 // The kind of calls of this name.
 fn call_of(name: &str) -> Result<Call, Fault> {
-    if name == "open" {
-        return Ok(Call::Open);
+    match name {
+        "open" => Ok(Call::Open),
+        "first" => Ok(Call::First),
+        "read" => Ok(Call::Read),
+        "write" => Ok(Call::Write),
+        "out" => Ok(Call::Out),
+        _ => Err(Fault::Unreadable),
     }
-    if name == "first" {
-        return Ok(Call::First);
+}
+
+// Takes a number of bytes, or the call that fails.
+fn set_number(mut options: Options, name: &str, number: u32) -> Result<Options, Fault> {
+    match name {
+        "give" => options.give = number as usize,
+        "take" => options.take = number as usize,
+        "room" => options.room = number as usize,
+        _ => options = options.failing(call_of(name)?, number),
     }
-    if name == "read" {
-        return Ok(Call::Read);
-    }
-    if name == "write" {
-        return Ok(Call::Write);
-    }
-    if name == "out" {
-        return Ok(Call::Out);
-    }
-    Err(Fault::Unreadable)
+    Ok(options)
 }
 
 // Takes a setting, such as `give=5`, `read=3` or `each-read=22`.
@@ -93,32 +96,13 @@ fn set(options: Options, name: &str, number: u64) -> Result<Options, Fault> {
     let Ok(number) = u32::try_from(number) else {
         return Err(Fault::Unreadable);
     };
-    let size = number as usize;
-    if name == "give" {
-        return Ok(Options {
-            give: size,
-            ..options
-        });
-    }
-    if name == "take" {
-        return Ok(Options {
-            take: size,
-            ..options
-        });
-    }
-    if name == "room" {
-        return Ok(Options {
-            room: size,
-            ..options
-        });
-    }
-    if let Some(kind) = name.strip_prefix("each-") {
-        return Ok(Options {
-            each: Some((call_of(kind)?, number)),
-            ..options
-        });
-    }
-    Ok(options.failing(call_of(name)?, number))
+    let Some(kind) = name.strip_prefix("each-") else {
+        return set_number(options, name, number);
+    };
+    Ok(Options {
+        each: Some((call_of(kind)?, number)),
+        ..options
+    })
 }
 
 /// The options of a field; `-` is none.

@@ -1,5 +1,5 @@
 //! What the readers of tapes and of scripts make of bytes.
-use crate::bytes::{read_number, show};
+use crate::bytes::{read_number, shown};
 use crate::job::source;
 use crate::options::Options;
 use crate::row::Fault;
@@ -10,14 +10,11 @@ use std::alloc::{AllocError, Global};
 /// The most command lines that are told one by one.
 const MOST_LINES: usize = 20;
 
-// Appends an item: its locality, its random bytes and its payload.
-fn show_item(alloc: Global, text: &mut String, item: &ItemBuffer) -> Result<(), AllocError> {
-    let locality = format!(in alloc; "{} ", item.locality)?;
-    text.push_str(locality.as_str())?;
-    show(alloc, text, &item.random)?;
-    text.push(' ')?;
-    show(alloc, text, &item.payload[..item.len.min(4_096)])?;
-    text.push_str(" | ")
+// An item: its locality, its random bytes and its payload.
+fn item_text(alloc: Global, item: &ItemBuffer) -> Result<String, AllocError> {
+    let random = shown(alloc, &item.random)?;
+    let payload = shown(alloc, &item.payload[..item.len.min(4_096)])?;
+    format!(in alloc; "{} {random} {payload} | ", item.locality)
 }
 
 /// The items that a source gives, what comes behind them, and the bytes that are left then.
@@ -28,7 +25,7 @@ pub(crate) fn items_of(alloc: Global, options: Options, bytes: &[u8]) -> Result<
     for _ in 0..100 {
         let what = match read_item(&mut source, &mut item) {
             Taken::Whole => {
-                show_item(alloc, &mut text, &item)?;
+                text.push_str(item_text(alloc, &item)?.as_str())?;
                 continue;
             }
             Taken::End => "end",
@@ -38,9 +35,8 @@ pub(crate) fn items_of(alloc: Global, options: Options, bytes: &[u8]) -> Result<
         text.push_str(what)?;
         break;
     }
-    text.push_str(" | ")?;
-    show(alloc, &mut text, source.left())?;
-    Ok(text)
+    let left = shown(alloc, source.left())?;
+    Ok(format!(in alloc; "{text} | {left}")?)
 }
 
 // Appends the number and the link of each command line.

@@ -7,7 +7,7 @@ use crate::sweep::outcomes;
 use std::alloc::{AllocError, AllocFailed, Global};
 
 /// Why a row has no answer.
-#[derive(Clone, Copy, Debug, PartialEq, Eq)]
+#[derive(Clone, Copy)]
 pub enum Fault {
     /// It is of no form.
     Unreadable,
@@ -28,16 +28,12 @@ impl<T: Drop> From<AllocFailed<T>> for Fault {
 
 // The program of this name.
 fn program_of(name: &str) -> Option<Program> {
-    if name == "batch" {
-        return Some(Program::Batch);
+    match name {
+        "batch" => Some(Program::Batch),
+        "client" => Some(Program::Client),
+        "audit" => Some(Program::Audit),
+        _ => None,
     }
-    if name == "client" {
-        return Some(Program::Client);
-    }
-    if name == "audit" {
-        return Some(Program::Audit);
-    }
-    None
 }
 
 // The fields of a row, behind its call.
@@ -89,13 +85,11 @@ fn reading_of(alloc: Global, names: &Names, name: &str, fields: &[&str]) -> Resu
         return Err(Fault::Unreadable);
     }
     let bytes = read_bytes(alloc, names, fields[1])?;
-    if name == "items" {
-        return items_of(alloc, read_options(fields[0])?, &bytes);
+    match name {
+        "items" => items_of(alloc, read_options(fields[0])?, &bytes),
+        "script" => lines_of(alloc, fields[0], &bytes),
+        _ => Err(Fault::Unreadable),
     }
-    if name == "script" {
-        return lines_of(alloc, fields[0], &bytes);
-    }
-    Err(Fault::Unreadable)
 }
 
 /// What is printed for a row; nothing where it names bytes for the rows below it.
