@@ -330,6 +330,9 @@ def outside(session):
     session.command("sign-without-anything", 0, SIGN, {}, 16)
     session.command("unseal-asymmetric", 0, UNSEAL, {4: True, 99: 0}, 16)
     session.command("to-be-default", 0, ROTATE, {1: NEVER_MADE, 2: True}, 16)
+    session.heading("And where nothing else of the command is wrong but its handle.")
+    session.command("create-certificate-else-right", 0, DERIVE, LAYER | {1: NEVER_MADE, 11: True}, 16)
+    session.command("unseal-asymmetric-else-right", 0, UNSEAL, {1: NEVER_MADE, 4: True, 5: b""}, 16)
     session.heading("A value of such a key that is no boolean is code 3.")
     for name, number, fields in (
         ("simulation-a-number", INITIALIZE, {1: 1}),

@@ -4,7 +4,7 @@ use dpe_unix::{Cause, Manual};
 /// The forms of the words, and for each status what went wrong and what to do.
 pub const MANUAL: Manual = Manual {
     name: "dpe_batch",
-    usage: "usage: dpe_batch run SEED FIRST < TAPE > REPLIES\n       dpe_batch load NUMBER COMMANDS\n       SEED is 64 hexadecimal digits, FIRST and NUMBER are below 2^64, COMMANDS is 1 to 65536\nexample: dpe_batch load 7 100\n",
+    usage: "usage: dpe_batch run SEED FIRST < TAPE > REPLIES\n       dpe_batch load NUMBER COMMANDS\n       SEED is 64 hexadecimal digits, FIRST and NUMBER are below 2^64, COMMANDS is 1 to 65536\nexample: dpe_batch load 7 100\nversion: 0.9.0\n",
     causes: &[
         Cause {
             status: 2,

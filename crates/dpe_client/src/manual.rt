@@ -4,7 +4,7 @@ use dpe_unix::{Cause, Manual};
 /// The forms of the words, and for each status what went wrong and what to do.
 pub const MANUAL: Manual = Manual {
     name: "dpe_client",
-    usage: "usage: dpe_client SCRIPT SOCKET [SOCKET ..]\nexample: dpe_client boot.script rom tee loader kernel\n",
+    usage: "usage: dpe_client SCRIPT SOCKET [SOCKET ..]\nexample: dpe_client boot.script rom tee loader kernel\nversion: 0.9.0\n",
     causes: &[
         Cause {
             status: 2,

@@ -4,7 +4,7 @@ use dpe_unix::{Cause, Manual};
 /// The forms of the words, and for each status what went wrong and what to do.
 pub const MANUAL: Manual = Manual {
     name: "dpe_ratchet",
-    usage: "usage: dpe_ratchet seal CDI W V LABEL SALT < DATA > BOX\n       dpe_ratchet open CDI W LABEL LOCALITY MODE < BOX > DATA\nexample: dpe_ratchet seal \"$(printf '%064d' 0)\" 5 3 \"\" \"$(printf '%032d' 0)\" < data > box\n",
+    usage: "usage: dpe_ratchet seal CDI W V LABEL SALT < DATA > BOX\n       dpe_ratchet open CDI W LABEL LOCALITY MODE < BOX > DATA\nexample: dpe_ratchet seal \"$(printf '%064d' 0)\" 5 3 \"\" \"$(printf '%032d' 0)\" < data > box\nversion: 0.9.0\n",
     causes: &[
         Cause {
             status: 2,

@@ -4,7 +4,7 @@ use dpe_unix::{Cause, Manual};
 /// The forms of the words, and for each status what went wrong and what to do.
 pub const MANUAL: Manual = Manual {
     name: "dpe_replay",
-    usage: "usage: dpe_replay check SEED JOURNAL\n       dpe_replay live SEED JOURNAL\n       dpe_replay list JOURNAL\n       dpe_replay connection JOURNAL CALLER CONNECTION\n       CALLER and CONNECTION are below 2^32\nexample: dpe_replay check seed journal\n",
+    usage: "usage: dpe_replay check SEED JOURNAL\n       dpe_replay live SEED JOURNAL\n       dpe_replay list JOURNAL\n       dpe_replay connection JOURNAL CALLER CONNECTION\n       CALLER and CONNECTION are below 2^32\nexample: dpe_replay check seed journal\nversion: 0.9.0\n",
     causes: &[
         Cause {
             status: 2,

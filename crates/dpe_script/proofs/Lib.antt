@@ -8,6 +8,7 @@ pub mod Settling
 pub mod Running
 pub mod Taking
 pub mod Asking
+pub mod Receiving
 pub mod Shown
 pub mod Lines
 pub mod Opening

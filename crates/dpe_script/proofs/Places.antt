@@ -1,12 +1,13 @@
 -- Names, their places, and what stands there.
-use Rattle.std.proofs.Common.{◌≡◌, ℕ, zero, suc, ◌+◌, ◌<◌, Bool, true, false, List, ◌∷◌, length, drop, get_or, replicate, Option, Some, None, refl, sym, ap, ◌∙◌, arith}
+use Rattle.std.proofs.Common.{◌≡◌, ℕ, zero, suc, ◌+◌, ◌<◌, ◌≤◌, Bool, true, false, List, [], ◌∷◌, length, drop, get_or, replicate, Option, Some, None, refl, sym, ap, ◌∙◌, arith}
+use Rattle.std.proofs.lemmas.List.Elements.{All-replicate}
 use Rattle.std.specs.Option.{option_map, option_and_then, unwrap_or}
 use Rattle.std.specs.Prelude.{slice_get, bytes_eq}
 use Rattle.std.specs.Prelude.{if◌then◌else◌}
 use Rattle.std.specs.Borrow.{Bor}
 use Rattle.dpe_script.specs.Values.{texts}
 use Rattle.dpe_script.proofs.Lists.{texts_step}
-use Rattle.dpe_script.specs.CodeValues.{place_of, found}
+use Rattle.dpe_script.specs.CodeValues.{place_of, found, AreShort}
 
 shift_zero : (o : Option ℕ) → option_map (λ (k : ℕ). 0 + k) o ≡ o
 shift_zero None = refl
@@ -31,6 +32,10 @@ same_at d n (Some i) = get_same d n i
 -- where each place has the default, each name does
 pub found_same : (d : List ℕ) (names : List (List ℕ)) (n : ℕ) (name : List ℕ) → found d names (replicate n d) name ≡ d
 found_same d names n name = same_at d n (place_of names name)
+
+-- boxes of no bytes are short
+pub empty_short : (n : ℕ) → AreShort (replicate n [])
+empty_short n = All-replicate (λ (b : List ℕ). length b ≤ 3900) n [] (omega arith)
 
 -- ---- a search from a place on
 

@@ -3,6 +3,8 @@ use Rattle.std.specs.Prelude.{◌≡◌, ℕ, ◌<◌, ◌≤◌, List, [], ◌�
 use Rattle.std.specs.Io.KnownBytes.{Consumes, Appends, IsAtEnd}
 use Rattle.dpe_link.specs.Frames.{frame, told_length}
 use Rattle.dpe_link.specs.Reading.{IsNoFrame}
+use Rattle.dpe_link.specs.declared.read.FrameFault.{FrameFault}
+use Rattle.dpe_link.specs.declared.read.FrameFault.TheVariants.{Cut, TooLong, ReadFault}
 use Rattle.dpe_io.specs.Causes.{Rose}
 use Rattle.dpe_io.specs.Told.{Told, KeepsCounts}
 pub use Rattle.dpe_text.specs.Writing.{AppendsFront}
@@ -66,6 +68,12 @@ HasLineCause result old new out_old out_new =
     MatchResult result (λ _. KeepsCounts old new × (out_new ≡ out_old)) (λ cause. CausedBy cause old new out_old out_new)
 
 -- ## The parts of a line
+
+-- why no frame came: what the link told is none, or it failed
+abbrev pub cause_at : FrameFault → Cause
+cause_at (Cut have) = Reply
+cause_at (TooLong told) = Reply
+cause_at ReadFault = Link
 
 -- what was taken is no frame: a link ended or told too much, or failed
 abbrev pub HasNoFrame : Act → Cause → Told → Told → Type 0

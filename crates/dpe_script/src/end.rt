@@ -1,7 +1,7 @@
 //! How a run ends.
 
 /// How a run ended, once its words were right.
-#[derive(Clone, Copy, Debug, PartialEq, Eq)]
+#[derive(Clone, Copy)]
 pub enum End {
     /// Each line was answered.
     Done,

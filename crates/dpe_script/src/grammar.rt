@@ -1,5 +1,5 @@
 //! Reads the words of a command line.
-ghost use Rattle.std.specs.Prelude.{◌≡◌, ◌≤◌, ◌<◌, ℕ, IfSome, Some, None, IsTrue, length};
+ghost use Rattle.std.specs.Prelude.{◌≡◌, ◌≤◌, ◌<◌, ℕ, IfSome, Some, None, IsTrue, length, bytes_eq};
 ghost use Rattle.std.specs.Option.{option_map};
 ghost use Rattle.dpe_messages.specs.Request.{inline, descriptor};
 ghost use Rattle.dpe_script.specs.Values.{texts, value_of};
@@ -50,6 +50,13 @@ const DERIVE_KEYS: [&[u8]; 9] = [
 pub struct Asking<'a> {
     pub link: u8,
     pub act: Act<'a>,
+}
+
+// Whether a word is this one.
+fn is_word(word: &[u8], name: &[u8]) -> bool
+    ensures { result ≡ bytes_eq word.now name.now }
+{
+    word == name
 }
 
 // Whether the words begin with these keys, each at most once.
@@ -134,7 +141,10 @@ fn read_derive<'a>(words: &[&'a [u8]]) -> Option<Act<'a>>
 {
     let (old, others) = first_name(words)?;
     let (fresh, options) = first_name(others)?;
-    Some(Act::Derive(derive_options(old, fresh, options)?))
+    match derive_options(old, fresh, options) {
+        Some(derive) => Some(Act::Derive(derive)),
+        None => None,
+    }
 }
 
 // The arguments of `derive`, behind its two names.
@@ -252,7 +262,7 @@ fn read_recursive(words: &[&[u8]]) -> Option<bool>
     match words.split_first() {
         None => Some(false),
         Some((word, others)) => {
-            if others.is_empty() && *word == b"recursive".as_slice() {
+            if others.is_empty() && is_word(word, b"recursive") {
                 return Some(true);
             }
             None
@@ -285,31 +295,31 @@ fn read_act<'a>(command: &[u8], words: &[&'a [u8]]) -> Option<Act<'a>>
     ensures act { option_map act_of result ≡ act_named command.now (texts words.now) }
     ensures range { IfSome result (λ act. IsInRange (act_of act)) }
 {
-    if command == b"profile".as_slice() {
+    if is_word(command, b"profile") {
         return read_profile(words);
     }
-    if command == b"init".as_slice() {
+    if is_word(command, b"init") {
         return read_initialize(words);
     }
-    if command == b"derive".as_slice() {
+    if is_word(command, b"derive") {
         return read_derive(words);
     }
-    if command == b"sign".as_slice() {
+    if is_word(command, b"sign") {
         return read_sign(words);
     }
-    if command == b"seal".as_slice() {
+    if is_word(command, b"seal") {
         return read_seal(words);
     }
-    if command == b"unseal".as_slice() {
+    if is_word(command, b"unseal") {
         return read_unseal(words);
     }
-    if command == b"rotate".as_slice() {
+    if is_word(command, b"rotate") {
         return read_rotate(words);
     }
-    if command == b"destroy".as_slice() {
+    if is_word(command, b"destroy") {
         return read_destroy(words);
     }
-    if command == b"raw".as_slice() {
+    if is_word(command, b"raw") {
         return read_raw(words);
     }
     None
@@ -339,6 +349,8 @@ pub fn read_asking<'a>(words: &[&'a [u8]], links: u8) -> Option<Asking<'a>>
     let (link, others) = words.split_first()?;
     let (command, arguments) = others.split_first()?;
     let link = read_link(link, links)?;
-    let act = read_act(command, arguments)?;
-    Some(Asking { link, act })
+    match read_act(command, arguments) {
+        Some(act) => Some(Asking { link, act }),
+        None => None,
+    }
 }

@@ -8,7 +8,7 @@ ghost use Rattle.dpe_script.specs.Meaning.{no_values};
 ghost use Rattle.dpe_script.specs.CodeNames.{names_of};
 ghost use Rattle.dpe_script.specs.CodeScript.{line_of, lines_are, IsLineKnown, IsLineInRange};
 ghost use Rattle.dpe_script.specs.CodeValues.{values_of, IsReady};
-ghost use Rattle.dpe_script.specs.Run.{AppendsFront, told_at, HasNoFrame, NotExchanged, Concludes, NotConcluded, HasOutputCause, Exchanges, Fails, HasLineCause, RunsWhole, Stops, HasRunCause};
+ghost use Rattle.dpe_script.specs.Run.{AppendsFront, told_at, cause_at, HasNoFrame, NotExchanged, Concludes, NotConcluded, HasOutputCause, Exchanges, Fails, HasLineCause, RunsWhole, Stops, HasRunCause};
 
 use crate::answer::take_answer;
 use crate::command::write_act;
@@ -19,7 +19,7 @@ use dpe_link::{FrameFault, read_frame, write_frame};
 use dpe_text::print;
 
 /// Why a script ended before its last line.
-#[derive(Clone, Copy, Debug, PartialEq, Eq)]
+#[derive(Clone, Copy)]
 pub enum Cause {
     /// A link failed.
     Link,
@@ -30,7 +30,7 @@ pub enum Cause {
 }
 
 /// The line at which a script ended, and why.
-#[derive(Clone, Copy, Debug, PartialEq, Eq)]
+#[derive(Clone, Copy)]
 pub struct LineFault {
     pub line: usize,
     pub cause: Cause,
@@ -51,6 +51,17 @@ fn send<L: Duplex>(link: &mut L, payload: &[u8]) -> Result<(), Failed>
     }
 }
 
+// Why no frame came.
+fn cause_of(fault: FrameFault) -> Cause
+    ensures { result ≡ cause_at fault }
+{
+    match fault {
+        FrameFault::Cut { .. } => Cause::Reply,
+        FrameFault::TooLong { .. } => Cause::Reply,
+        FrameFault::ReadFault => Cause::Link,
+    }
+}
+
 // Reads the frame that comes back, and says how many bytes its payload has.
 fn receive<L: Duplex>(link: &mut L, room: &mut [u8; 4096]) -> Result<usize, Cause>
     ensures few { IfOk result (λ count. count ≤ 4096) }
@@ -62,9 +73,7 @@ fn receive<L: Duplex>(link: &mut L, room: &mut [u8; 4096]) -> Result<usize, Caus
     match read_frame(link, room) {
         Ok(Some(len)) => Ok(len),
         Ok(None) => Err(Cause::Reply),
-        Err(FrameFault::Cut { .. }) => Err(Cause::Reply),
-        Err(FrameFault::TooLong { .. }) => Err(Cause::Reply),
-        Err(FrameFault::ReadFault) => Err(Cause::Link),
+        Err(fault) => Err(cause_of(fault)),
     }
 }
 

@@ -113,9 +113,10 @@ fn read_line<'a>(alloc: Global, line: &'a [u8], links: u8) -> Result<Form<'a>, A
         }
         return Ok(Form::Bad);
     }
-    match read_words(alloc, line, links)? {
-        Some(asking) => Ok(Form::Asks(asking)),
-        None => Ok(Form::Bad),
+    match read_words(alloc, line, links) {
+        Ok(Some(asking)) => Ok(Form::Asks(asking)),
+        Ok(None) => Ok(Form::Bad),
+        Err(error) => Err(error),
     }
 }
 

@@ -4,7 +4,7 @@ use dpe_unix::{Cause, Manual};
 /// The forms of the words, and for each status what went wrong and what to do.
 pub const MANUAL: Manual = Manual {
     name: "dpe_server",
-    usage: "usage: dpe_server SEED JOURNAL EACH ENTRIES FIRST DOOR [DOOR ..]\n       EACH is 1 to 65535, ENTRIES 1 to 65536, FIRST below 2^64, a DOOR is LOCALITY:PATH with a locality 0 to 7\nexample: dpe_server seed journal 1 8192 1 0:rom 3:kernel\n",
+    usage: "usage: dpe_server SEED JOURNAL EACH ENTRIES FIRST DOOR [DOOR ..]\n       EACH is 1 to 65535, ENTRIES 1 to 65536, FIRST below 2^64, a DOOR is LOCALITY:PATH with a locality 0 to 7\nexample: dpe_server seed journal 1 8192 1 0:rom 3:kernel\nversion: 0.9.0\n",
     causes: &[
         Cause {
             status: 2,
