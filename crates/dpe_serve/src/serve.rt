@@ -117,6 +117,24 @@ fn make_rooms(alloc: Global, count: usize) -> Result<Vec<Room>, AllocError>
     Ok(rooms)
 }
 
+// Empty lists of posts and of workers, with room for so many of each.
+fn make_lists<D: Door, E: Entropy>(
+    alloc: Global,
+    count: usize,
+) -> Result<(Vec<Post<D, E>>, Vec<Worker<D, E>>), AllocError>
+    ensures posts { IfOk result (λ r. (r.0.items ≡ []) × (count ≤ vec_capacity r.0)) }
+    ensures workers { IfOk result (λ r. (r.1.items ≡ []) × (count ≤ vec_capacity r.1)) }
+{
+    let posts = Vec::with_capacity(alloc, count)?;
+    match Vec::with_capacity(alloc, count) {
+        Ok(workers) => Ok((posts, workers)),
+        Err(error) => {
+            posts.destroy_empty();
+            Err(error)
+        }
+    }
+}
+
 // Takes all memory.
 fn take_stock<D: Door, E: Entropy>(
     alloc: Global,
@@ -127,23 +145,17 @@ fn take_stock<D: Door, E: Entropy>(
     ensures stock { IfOk result (IsStock setting.entry) }
     ensures seed { IfOk result (λ stock. seed_of stock ≡ seed.now) }
 {
-    let (desk, pass) = make_desk(alloc, seed, setting.first, setting.entries)?;
     let doors = setting.doors.len();
     let rooms = make_rooms(alloc, doors)?;
-    let posts = Vec::with_capacity(alloc, doors)?;
-    match Vec::with_capacity(alloc, doors) {
-        Ok(workers) => Ok(Stock {
-            desk,
-            pass,
-            rooms,
-            posts,
-            workers,
-        }),
-        Err(error) => {
-            posts.destroy_empty();
-            Err(error)
-        }
-    }
+    let (desk, pass) = make_desk(alloc, seed, setting.first, setting.entries)?;
+    let (posts, workers) = make_lists(alloc, doors)?;
+    Ok(Stock {
+        desk,
+        pass,
+        rooms,
+        posts,
+        workers,
+    })
 }
 
 // Gives the memory back.
@@ -230,6 +242,17 @@ fn take_spare<H: House>(house: &mut H, place: u32, entropy: Option<H::Entropy>)
     }
 }
 
+// Closes a desk at which nobody made a call, and gives the book of the empty history.
+fn close_unused(desk: Desk<Book>, pass: Pass<Book>) -> Book
+    requires opening { desk.terms.opening ≡ [] }
+    requires belongs { Belongs desk pass × IsFresh pass.view }
+    requires whole { (pass.view.names ≡ 0 ∷ []) × (pass.view.stake ≡ 65536) }
+    ensures kind { record result { history = [] } ≡ desk.terms.kind }
+    ensures empty { result.history ≡ [] }
+{
+    desk.close(pass)
+}
+
 // Hands back what was opened, and gives the book of the empty history.
 fn give_up<H: House>(
     stock: Stock<H::Door, H::Entropy>,
@@ -257,7 +280,7 @@ fn give_up<H: House>(
     hand_back(house, &mut posts);
     posts.destroy_empty();
     take_spare(house, place, spare);
-    desk.close(pass)
+    close_unused(desk, pass)
 }
 
 // Opens all doors, serves them and hands them back. Where an opening fails, the book is that of the empty history.
