@@ -1,20 +1,33 @@
 //! How a row writes bytes: pieces joined by `+`, each a name of the table, hexadecimal digits, `HH*N` for N bytes that are
 //! alike, or `-` for none.
 use std::alloc::{AllocError, AllocFailed, Global};
-use thiserror::Error;
 
 /// Why a row has no answer.
-#[derive(Debug, Drop, Error)]
+#[derive(Clone, Copy)]
 pub(crate) enum RowFault {
-    #[error("out of memory")]
-    NoMemory(#[from] AllocError),
-    #[error("can't be read")]
+    NoMemory,
     Unread,
+}
+
+impl RowFault {
+    /// The fault in words.
+    pub(crate) fn words(self) -> &'static str {
+        match self {
+            RowFault::NoMemory => "out of memory",
+            RowFault::Unread => "can't be read",
+        }
+    }
+}
+
+impl From<AllocError> for RowFault {
+    fn from(_fault: AllocError) -> RowFault {
+        RowFault::NoMemory
+    }
 }
 
 impl<T: Drop> From<AllocFailed<T>> for RowFault {
     fn from(_fault: AllocFailed<T>) -> RowFault {
-        RowFault::NoMemory(AllocError)
+        RowFault::NoMemory
     }
 }
 
@@ -47,7 +60,10 @@ fn byte_of(digits: &str) -> Result<u8, RowFault> {
 
 /// The number that a word has the decimal digits of.
 pub(crate) fn number_of(word: &str) -> Result<u32, RowFault> {
-    word.parse::<u32>().map_err(|_| RowFault::Unread)
+    match word.parse::<u32>() {
+        Ok(number) => Ok(number),
+        Err(_) => Err(RowFault::Unread),
+    }
 }
 
 /// The numbers of a word, with commas between, or `-` for none.
@@ -61,6 +77,25 @@ pub(crate) fn numbers_of(alloc: Global, word: &str) -> Result<Vec<u32>, RowFault
     Ok(numbers)
 }
 
+// Appends a byte so many times.
+fn append_alike(bytes: &mut Vec<u8>, byte: u8, times: u32) -> Result<(), RowFault> {
+    for _ in 0..(times as usize).min(MOST_ALIKE) {
+        bytes.push(byte)?;
+    }
+    Ok(())
+}
+
+// Appends the bytes of digits, or none for `-`.
+fn append_digits(alloc: Global, bytes: &mut Vec<u8>, digits: &str) -> Result<(), RowFault> {
+    if digits == "-" {
+        return Ok(());
+    }
+    match hex::decode(alloc, digits) {
+        Ok(decoded) => Ok(bytes.extend_from_slice(&decoded)?),
+        Err(_) => Err(RowFault::Unread),
+    }
+}
+
 impl Names {
     /// No name yet.
     pub(crate) fn new(alloc: Global) -> Names {
@@ -70,10 +105,15 @@ impl Names {
     }
 
     /// Gives a name to bytes.
-    pub(crate) fn add(&mut self, alloc: Global, name: &str, word: &str) -> Result<(), RowFault> {
-        let bytes = self.bytes(alloc, word)?;
-        let name = String::from_str(alloc, name)?;
-        self.all.push(Named { name, bytes })?;
+    pub(crate) fn add(&mut self, alloc: Global, words: &[&str]) -> Result<(), RowFault> {
+        let [name, word] = words else {
+            return Err(RowFault::Unread);
+        };
+        let named = Named {
+            name: String::from_str(alloc, name)?,
+            bytes: self.bytes(alloc, word)?,
+        };
+        self.all.push(named)?;
         Ok(())
     }
 
@@ -88,21 +128,21 @@ impl Names {
 
     // Appends the bytes of one piece.
     fn append(&self, alloc: Global, piece: &str, bytes: &mut Vec<u8>) -> Result<(), RowFault> {
-        if let Some(named) = self.find(piece) {
-            bytes.extend_from_slice(named)?;
-        } else if let Some((digits, times)) = piece.split_once('*') {
-            let byte = byte_of(digits)?;
-            let times = number_of(times)? as usize;
-            for _ in 0..times.min(MOST_ALIKE) {
-                bytes.push(byte)?;
-            }
-        } else if piece != "-" {
-            match hex::decode(alloc, piece) {
-                Ok(decoded) => bytes.extend_from_slice(&decoded)?,
-                Err(_) => return Err(RowFault::Unread),
-            }
+        match self.find(piece) {
+            Some(named) => Ok(bytes.extend_from_slice(named)?),
+            None => match piece.split_once('*') {
+                Some((digits, times)) => append_alike(bytes, byte_of(digits)?, number_of(times)?),
+                None => append_digits(alloc, bytes, piece),
+            },
         }
-        Ok(())
+    }
+
+    /// The bytes of a row's only word.
+    pub(crate) fn only(&self, alloc: Global, words: &[&str]) -> Result<Vec<u8>, RowFault> {
+        match words {
+            [word] => self.bytes(alloc, word),
+            _ => Err(RowFault::Unread),
+        }
     }
 
     /// The bytes of a word.

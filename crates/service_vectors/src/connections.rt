@@ -3,7 +3,7 @@ ghost use Rattle.std.specs.Prelude.{◌≤◌, All, IfOk, OnOk};
 ghost use Rattle.dpe_io.specs.Memory.{IsFaultless, IsUnused};
 
 use crate::bytes::{Names, RowFault, Runs, number_of, numbers_of, shown};
-use crate::journals::{DIFFERS, PIECES, book_of, shown_entry};
+use crate::journals::{PIECES, book_of, same_of, shown_entry};
 use dpe_connections::{End, Room, Tally, Worker, serve_connection, serve_worker};
 use dpe_desk::Desk;
 use dpe_io::{MemConn, MemDoor, MemEntropy, MemSink, MemSource};
@@ -82,14 +82,14 @@ fn serve_one<R: Wait>(
 ) -> Result<Ended, RowFault>
     requires { 1 ≤ piece }
 {
-    let book = book_of(alloc, capacity)?;
-    let most = u64::from(book.capacity());
-    let Ok((desk, mut pass)) = Desk::make(alloc, book, most) else {
-        return Err(RowFault::NoMemory(AllocError));
-    };
     let mut conn = conn_of(alloc, sent, piece, reads, writes)?;
     let mut entropy = MemEntropy::new(alloc, &[[5; 32]], draws)?;
     let mut room = Room::make(alloc)?;
+    let book = book_of(alloc, capacity)?;
+    let most = u64::from(book.capacity());
+    let Ok((desk, mut pass)) = Desk::make(alloc, book, most) else {
+        return Err(RowFault::NoMemory);
+    };
     let end = serve_connection(
         rt,
         &desk,
@@ -141,17 +141,18 @@ fn served<R: Wait>(
 pub(crate) fn serve<R: Wait>(
     rt: &R,
     alloc: Global,
-    capacity: &str,
-    sent: &[u8],
+    names: &Names,
+    words: &[&str],
 ) -> Result<String, RowFault> {
+    let [capacity, sent] = words else {
+        return Err(RowFault::Unread);
+    };
+    let sent = names.bytes(alloc, sent)?;
     let [one, seven, all] = PIECES;
-    let text = served(rt, alloc, capacity, sent, one)?;
-    let second = served(rt, alloc, capacity, sent, seven)?;
-    let third = served(rt, alloc, capacity, sent, all)?;
-    if text.as_str() != second.as_str() || text.as_str() != third.as_str() {
-        return Ok(String::from_str(alloc, DIFFERS)?);
-    }
-    Ok(text)
+    let text = served(rt, alloc, capacity, &sent, one)?;
+    let second = served(rt, alloc, capacity, &sent, seven)?;
+    let third = served(rt, alloc, capacity, &sent, all)?;
+    same_of(alloc, text, &second, &third)
 }
 
 // The end, the number of entries and of the bytes that the connection got.
@@ -184,19 +185,21 @@ fn serve_without<R: Wait>(
 pub(crate) fn serve_failing<R: Wait>(
     rt: &R,
     alloc: Global,
-    kind: &str,
-    calls: &str,
-    piece: &str,
-    sent: &[u8],
+    names: &Names,
+    words: &[&str],
 ) -> Result<String, RowFault> {
+    let [kind, calls, piece, sent] = words else {
+        return Err(RowFault::Unread);
+    };
     let calls = number_of(calls)?;
     let piece = number_of(piece)? as usize;
     if piece == 0 {
         return Err(RowFault::Unread);
     }
+    let sent = names.bytes(alloc, sent)?;
     let mut runs = Runs::new(alloc);
     for call in 0..calls {
-        let ended = serve_without(rt, alloc, kind, call, piece, sent)?;
+        let ended = serve_without(rt, alloc, kind, call, piece, &sent)?;
         runs.add(call as usize, shown_short(alloc, &ended)?)?;
     }
     Ok(runs.text())
@@ -221,6 +224,14 @@ pub(crate) fn door_of(
     Ok(MemDoor::new(alloc, conns, nexts)?)
 }
 
+// What came of a worker: what it tallied, its door, and the book.
+#[derive(Drop)]
+struct Worked {
+    tally: Tally,
+    door: MemDoor,
+    book: Book,
+}
+
 // Serves the connections of a door over a book.
 fn work_on<R: Wait>(
     rt: &R,
@@ -228,14 +239,14 @@ fn work_on<R: Wait>(
     capacity: &str,
     each: u32,
     door: MemDoor,
-) -> Result<(Tally, MemDoor, Book), RowFault> {
+) -> Result<Worked, RowFault> {
+    let entropy = MemEntropy::new(alloc, &[], &[])?;
+    let room = Room::make(alloc)?;
     let book = book_of(alloc, capacity)?;
     let most = u64::from(book.capacity());
     let Ok((desk, pass)) = Desk::make(alloc, book, most) else {
-        return Err(RowFault::NoMemory(AllocError));
+        return Err(RowFault::NoMemory);
     };
-    let entropy = MemEntropy::new(alloc, &[], &[])?;
-    let room = Room::make(alloc)?;
     let mut worker = Worker::new(door, entropy, pass, LOCALITY, each, room);
     serve_worker(rt, &desk, &mut worker);
     let Worker {
@@ -247,37 +258,53 @@ fn work_on<R: Wait>(
         tally,
         room: _,
     } = worker;
-    Ok((tally, door, desk.close(pass)))
+    Ok(Worked {
+        tally,
+        door,
+        book: desk.close(pass),
+    })
 }
 
-/// What a worker tallies, how many entries it makes over a book of so many places, and what each connection got that
-/// was handed back. It may serve at most `each` connections.
-pub(crate) fn work<R: Wait>(
-    rt: &R,
-    alloc: Global,
-    names: &Names,
-    capacity: &str,
-    each: &str,
-    failing: &str,
-    words: &[&str],
-) -> Result<String, RowFault> {
-    let failing = numbers_of(alloc, failing)?;
-    let door = door_of(alloc, names, words, &failing, &[], &[])?;
-    let (tally, door, book) = work_on(rt, alloc, capacity, number_of(each)?, door)?;
+// The tally, and how many entries the book has.
+fn shown_tally(alloc: Global, worked: &Worked) -> Result<String, AllocError> {
+    let tally = &worked.tally;
     let failed = if tally.door_failed {
         ", door failed"
     } else {
         ""
     };
-    let mut text = format!(in alloc;
+    format!(in alloc;
         "connections {}, full {}, cut {}{failed}, {} entries",
         tally.connections,
         tally.full,
         tally.cut,
-        book.length()
-    )?;
-    for conn in door.ended() {
+        worked.book.length()
+    )
+}
+
+// The same, and what each connection got that was handed back.
+fn shown_worked(alloc: Global, worked: &Worked) -> Result<String, AllocError> {
+    let mut text = shown_tally(alloc, worked)?;
+    for conn in worked.door.ended() {
         write!(text, ", got {}", shown(alloc, conn.sink().bytes())?)?;
     }
     Ok(text)
+}
+
+/// What a worker tallies, how many entries it makes over a book of so many places, and what each connection got that
+/// was handed back. It may serve at most so many connections.
+pub(crate) fn work<R: Wait>(
+    rt: &R,
+    alloc: Global,
+    names: &Names,
+    words: &[&str],
+) -> Result<String, RowFault> {
+    let [capacity, each, failing, words @ ..] = words else {
+        return Err(RowFault::Unread);
+    };
+    let each = number_of(each)?;
+    let failing = numbers_of(alloc, failing)?;
+    let door = door_of(alloc, names, words, &failing, &[], &[])?;
+    let worked = work_on(rt, alloc, capacity, each, door)?;
+    Ok(shown_worked(alloc, &worked)?)
 }

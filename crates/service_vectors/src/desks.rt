@@ -1,4 +1,6 @@
 //! A desk over a book, shared by two passes of one thread.
+ghost use Rattle.std.specs.Prelude.{◌≤◌};
+
 use crate::bytes::{Names, RowFault, number_of, shown};
 use dpe_desk::{Desk, Full, Pass};
 use dpe_io::{MAX_PACKET, Packet};
@@ -8,7 +10,7 @@ use std::alloc::{AllocError, Global};
 use std::sync::Wait;
 
 // A pass as it is printed: its name, its stake, and how many passes it stands for.
-#[derive(Drop)]
+#[derive(Clone, Copy)]
 struct Shown {
     name: u32,
     stake: u32,
@@ -52,6 +54,67 @@ fn add_book(alloc: Global, text: &mut String, book: &Book, reply: &[u8]) -> Resu
     write!(text, "reply {}", shown(alloc, reply)?)
 }
 
+// What came of two passes: what they were at first, what each was answered and how long the book was then, what they were
+// answered later, what the first was once it had been joined, and the book.
+#[derive(Drop)]
+struct Shares {
+    begun: [Shown; 2],
+    one_each: [Result<u64, Full>; 2],
+    length: u64,
+    more: [Result<u64, Full>; 3],
+    joined: [Shown; 1],
+    book: Book,
+}
+
+// Makes the call by two passes of a desk over an empty book of so many places.
+fn pass_all<R: Wait>(
+    rt: &R,
+    alloc: Global,
+    capacity: u32,
+    call: &Call,
+    reply: &mut Packet,
+) -> Result<Shares, AllocError>
+    requires some { 1 ≤ capacity }
+    requires most { capacity ≤ 65536 }
+{
+    let (desk, mut first) = open(alloc, &[0; 32], 1, capacity)?;
+    let mut second = desk.split(&mut first, 1);
+    let begun = [Shown::of(&first), Shown::of(&second)];
+    let one_each = [
+        desk.act(rt, &mut first, call, reply),
+        desk.act(rt, &mut second, call, reply),
+    ];
+    let length = desk.length(&mut first);
+    let more = [
+        desk.act(rt, &mut first, call, reply),
+        desk.act(rt, &mut first, call, reply),
+        desk.act(rt, &mut second, call, reply),
+    ];
+    desk.meet(&mut first, &mut second);
+    desk.join(&mut first, second);
+    let joined = [Shown::of(&first)];
+    Ok(Shares {
+        begun,
+        one_each,
+        length,
+        more,
+        joined,
+        book: desk.close(first),
+    })
+}
+
+// All of it, and the last reply.
+fn shown_shares(alloc: Global, shares: &Shares, reply: &[u8]) -> Result<String, AllocError> {
+    let mut text = String::new(alloc);
+    add_passes(&mut text, &shares.begun)?;
+    add_places(&mut text, &shares.one_each)?;
+    write!(text, "length {}, ", shares.length)?;
+    add_places(&mut text, &shares.more)?;
+    add_passes(&mut text, &shares.joined)?;
+    add_book(alloc, &mut text, &shares.book, reply)?;
+    Ok(text)
+}
+
 /// A desk over an empty book, both of so many places. A second pass is split off with a stake of 1. Each pass makes the
 /// call once, and the length is told; then the first makes it twice more, and the second once. The second is joined into
 /// the first, and the book closed: how many entries it has, their callers, and the last reply that was given.
@@ -59,9 +122,11 @@ pub(crate) fn share<R: Wait>(
     rt: &R,
     alloc: Global,
     names: &Names,
-    capacity: &str,
-    payload: &str,
+    words: &[&str],
 ) -> Result<String, RowFault> {
+    let [capacity, payload] = words else {
+        return Err(RowFault::Unread);
+    };
     let capacity = number_of(capacity)?;
     let payload = names.bytes(alloc, payload)?;
     if capacity == 0 || capacity > MAX_RECORDS || payload.len() > MAX_PACKET {
@@ -69,29 +134,6 @@ pub(crate) fn share<R: Wait>(
     }
     let call = Call::new(0, 0, 0, &[0; 32], &payload);
     let mut reply = Packet::new();
-    let (desk, mut first) = open(alloc, &[0; 32], 1, capacity)?;
-    let mut second = desk.split(&mut first, 1);
-    let begun = [Shown::of(&first), Shown::of(&second)];
-    let one_each = [
-        desk.act(rt, &mut first, &call, &mut reply),
-        desk.act(rt, &mut second, &call, &mut reply),
-    ];
-    let length = desk.length(&mut first);
-    let more = [
-        desk.act(rt, &mut first, &call, &mut reply),
-        desk.act(rt, &mut first, &call, &mut reply),
-        desk.act(rt, &mut second, &call, &mut reply),
-    ];
-    desk.meet(&mut first, &mut second);
-    desk.join(&mut first, second);
-    let joined = [Shown::of(&first)];
-    let book = desk.close(first);
-    let mut text = String::new(alloc);
-    add_passes(&mut text, &begun)?;
-    add_places(&mut text, &one_each)?;
-    write!(text, "length {length}, ")?;
-    add_places(&mut text, &more)?;
-    add_passes(&mut text, &joined)?;
-    add_book(alloc, &mut text, &book, reply.bytes())?;
-    Ok(text)
+    let shares = pass_all(rt, alloc, capacity, &call, &mut reply)?;
+    Ok(shown_shares(alloc, &shares, reply.bytes())?)
 }

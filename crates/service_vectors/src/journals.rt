@@ -3,14 +3,16 @@ ghost use Rattle.std.specs.Prelude.{◌≡◌, ◌≤◌, [], IfOk};
 
 use crate::bytes::{Names, RowFault, Runs, number_of, numbers_of, shown};
 use dpe_io::{MAX_PACKET, MemSink, MemSource, Packet, Source};
-use dpe_journal::{Book, Call, Entry, MAX_RECORDS, Next, RecordFault, Records, write_journal};
+use dpe_journal::{
+    Book, Call, Entry, MAX_RECORDS, Next, RecordFault, Records, SinkFault, write_journal,
+};
 use std::alloc::{AllocError, Global};
 
 /// How many bytes a read gives at most: each journal and each connection is read in these three ways.
 pub(crate) const PIECES: [usize; 3] = [1, 7, 9_000];
 
-/// The answer where the three ways differ.
-pub(crate) const DIFFERS: &str = "what is answered depends on the pieces";
+// The answer where the three ways differ.
+const DIFFERS: &str = "what is answered depends on the pieces";
 
 // The most bytes of a sink.
 const MOST_ROOM: u32 = 100_000;
@@ -72,20 +74,55 @@ fn parts_of(alloc: Global, source: MemSource, most: usize) -> Result<String, All
     Ok(text)
 }
 
-/// The parts of a journal, and what is left unread behind its end.
-pub(crate) fn read(alloc: Global, journal: &[u8]) -> Result<String, RowFault> {
-    let most = journal.len().saturating_add(2);
-    let [one, seven, all] = PIECES;
-    let text = parts_of(alloc, MemSource::new(alloc, journal, one, &[])?, most)?;
-    let second = parts_of(alloc, MemSource::new(alloc, journal, seven, &[])?, most)?;
-    let third = parts_of(alloc, MemSource::new(alloc, journal, all, &[])?, most)?;
-    if text.as_str() != second.as_str() || text.as_str() != third.as_str() {
-        return Ok(String::from_str(alloc, DIFFERS)?);
+/// What a row about a journal or a book gives.
+pub(crate) fn answer(
+    alloc: Global,
+    names: &Names,
+    call: &str,
+    words: &[&str],
+) -> Result<String, RowFault> {
+    match call {
+        "read" => read(alloc, &names.only(alloc, words)?),
+        "read-cut" => read_cut(alloc, &names.only(alloc, words)?),
+        "read-failing" => read_failing(alloc, &names.only(alloc, words)?),
+        "write" => write(alloc, names, words),
+        "book" => keep(alloc, names, words),
+        _ => Err(RowFault::Unread),
     }
-    Ok(text)
 }
 
-/// What is left of a reading: the end or the fault, and how many records stood before.
+// The parts of a journal that comes in such pieces.
+fn read_by(alloc: Global, journal: &[u8], piece: usize) -> Result<String, RowFault>
+    requires { 1 ≤ piece }
+{
+    let most = journal.len().saturating_add(2);
+    let source = MemSource::new(alloc, journal, piece, &[])?;
+    Ok(parts_of(alloc, source, most)?)
+}
+
+// The parts of a journal, and what is left unread behind its end.
+fn read(alloc: Global, journal: &[u8]) -> Result<String, RowFault> {
+    let [one, seven, all] = PIECES;
+    let text = read_by(alloc, journal, one)?;
+    let second = read_by(alloc, journal, seven)?;
+    let third = read_by(alloc, journal, all)?;
+    same_of(alloc, text, &second, &third)
+}
+
+/// The text, where the others are the same.
+pub(crate) fn same_of(
+    alloc: Global,
+    text: String,
+    second: &str,
+    third: &str,
+) -> Result<String, RowFault> {
+    if text.as_str() == second && text.as_str() == third {
+        return Ok(text);
+    }
+    Ok(String::from_str(alloc, DIFFERS)?)
+}
+
+// What is left of a reading: the end or the fault, and how many records stood before.
 fn verdict_of(alloc: Global, source: MemSource, most: usize) -> Result<String, AllocError> {
     let mut records = Records::new(source);
     let mut entry = Entry::new();
@@ -104,8 +141,8 @@ fn verdict_of(alloc: Global, source: MemSource, most: usize) -> Result<String, A
     String::from_str(alloc, "no end")
 }
 
-/// The journal cut to each length.
-pub(crate) fn read_cut(alloc: Global, journal: &[u8]) -> Result<String, RowFault> {
+// The journal cut to each length.
+fn read_cut(alloc: Global, journal: &[u8]) -> Result<String, RowFault> {
     let most = journal.len();
     let mut runs = Runs::new(alloc);
     for len in 0..=most {
@@ -115,8 +152,8 @@ pub(crate) fn read_cut(alloc: Global, journal: &[u8]) -> Result<String, RowFault
     Ok(runs.text())
 }
 
-/// The journal byte by byte, where each read in turn fails, and last one that isn't made.
-pub(crate) fn read_failing(alloc: Global, journal: &[u8]) -> Result<String, RowFault> {
+// The journal byte by byte, where each read in turn fails, and last one that isn't made.
+fn read_failing(alloc: Global, journal: &[u8]) -> Result<String, RowFault> {
     let mut runs = Runs::new(alloc);
     for call in 0..=MAX_RECORDS {
         if call as usize > journal.len().saturating_add(1) {
@@ -128,13 +165,8 @@ pub(crate) fn read_failing(alloc: Global, journal: &[u8]) -> Result<String, RowF
     Ok(runs.text())
 }
 
-/// A sink of so many bytes, of which a write takes at most a piece, and of which these calls fail.
-pub(crate) fn sink_of(
-    alloc: Global,
-    size: &str,
-    piece: &str,
-    failing: &str,
-) -> Result<MemSink, RowFault> {
+// A sink of so many bytes, of which a write takes at most a piece, and of which these calls fail.
+fn sink_of(alloc: Global, size: &str, piece: &str, failing: &str) -> Result<MemSink, RowFault> {
     let size = number_of(size)?;
     let piece = number_of(piece)? as usize;
     if size > MOST_ROOM || piece == 0 {
@@ -170,26 +202,33 @@ fn entries_of(alloc: Global, names: &Names, words: &[&str]) -> Result<Vec<Entry>
     Ok(entries)
 }
 
-/// What the sink gets of a journal, and how many of its bytes are told to be written where it fails.
-pub(crate) fn write(
-    alloc: Global,
-    names: &Names,
-    first: &str,
-    mut sink: MemSink,
-    words: &[&str],
-) -> Result<String, RowFault> {
+// What the sink gets of a journal, and how many of its bytes are told to be written where it fails.
+fn write(alloc: Global, names: &Names, words: &[&str]) -> Result<String, RowFault> {
+    let [first, size, piece, failing, words @ ..] = words else {
+        return Err(RowFault::Unread);
+    };
     let first = u64::from(number_of(first)?);
     let entries = entries_of(alloc, names, words)?;
+    let mut sink = sink_of(alloc, size, piece, failing)?;
     if entries.len() > MAX_RECORDS as usize {
         return Err(RowFault::Unread);
     }
     let answer = write_journal(first, &entries, &mut sink);
-    let size = sink.bytes().len();
-    let bytes = shown(alloc, &sink.bytes()[..size.min(200)])?;
-    Ok(match answer {
-        Ok(()) => format!(in alloc; "whole, {size} bytes: {bytes}")?,
-        Err(fault) => format!(in alloc; "fault behind {}, {size} bytes: {bytes}", fault.written)?,
-    })
+    Ok(shown_written(alloc, answer, sink.bytes())?)
+}
+
+// Whether all was written, and the first bytes that the sink got.
+fn shown_written(
+    alloc: Global,
+    answer: Result<(), SinkFault>,
+    got: &[u8],
+) -> Result<String, AllocError> {
+    let size = got.len();
+    let bytes = shown(alloc, &got[..size.min(200)])?;
+    match answer {
+        Ok(()) => format!(in alloc; "whole, {size} bytes: {bytes}"),
+        Err(fault) => { format!(in alloc; "fault behind {}, {size} bytes: {bytes}", fault.written) }
+    }
 }
 
 /// A book of so many places.
@@ -212,34 +251,51 @@ fn journal_of(alloc: Global, book: &Book) -> Result<String, RowFault> {
     }
 }
 
-/// The replies of a book to the calls of words `CALLER:PAYLOAD`, each over the room of the reply before, which begins with
-/// 4,096 nines; how many entries it has, and its journal.
-pub(crate) fn keep(
+// Makes the call of a word `CALLER:PAYLOAD`, and appends the reply.
+fn step(
     alloc: Global,
     names: &Names,
-    capacity: &str,
-    words: &[&str],
-) -> Result<String, RowFault> {
+    book: &mut Book,
+    word: &str,
+    reply: &mut Packet,
+    text: &mut String,
+) -> Result<(), RowFault> {
+    let (caller, payload) = word.split_once(':').ok_or(RowFault::Unread)?;
+    let caller = number_of(caller)?;
+    let payload = names.bytes(alloc, payload)?;
+    if payload.len() > MAX_PACKET || book.length() == book.capacity() {
+        return Err(RowFault::Unread);
+    }
+    book.step(caller, &Call::new(0, 0, 0, &SEED, &payload), reply);
+    write!(text, "{}, ", shown(alloc, reply.bytes())?)?;
+    Ok(())
+}
+
+// The replies of a book to the calls of words `CALLER:PAYLOAD`, each over the room of the reply before, which begins with
+// 4,096 nines; how many entries it has, and its journal.
+fn keep(alloc: Global, names: &Names, words: &[&str]) -> Result<String, RowFault> {
+    let Some((capacity, words)) = words.split_first() else {
+        return Err(RowFault::Unread);
+    };
     let mut book = book_of(alloc, capacity)?;
     let mut reply = Packet::new();
     reply.set(&[9; MAX_PACKET]);
     let mut text = String::new(alloc);
     for word in words {
-        let (caller, payload) = word.split_once(':').ok_or(RowFault::Unread)?;
-        let caller = number_of(caller)?;
-        let payload = names.bytes(alloc, payload)?;
-        if payload.len() > MAX_PACKET || book.length() == book.capacity() {
-            return Err(RowFault::Unread);
-        }
-        book.step(caller, &Call::new(0, 0, 0, &SEED, &payload), &mut reply);
-        write!(text, "{}, ", shown(alloc, reply.bytes())?)?;
+        step(alloc, names, &mut book, word, &mut reply, &mut text)?;
     }
+    add_book(alloc, &book, &mut text)?;
+    Ok(text)
+}
+
+// Appends how many entries a book has, and its journal.
+fn add_book(alloc: Global, book: &Book, text: &mut String) -> Result<(), RowFault> {
+    let journal = journal_of(alloc, book)?;
     write!(
         text,
-        "{} of {} entries: {}",
+        "{} of {} entries: {journal}",
         book.length(),
-        book.capacity(),
-        journal_of(alloc, &book)?
+        book.capacity()
     )?;
-    Ok(text)
+    Ok(())
 }

@@ -15,39 +15,21 @@ use std::io;
 use std::sync::Wait;
 use std::thread::Threads;
 
-// What the call of a row's words gives.
+// What the call of a row gives.
 fn answer<R: Threads + Wait + Sync>(
     rt: &R,
     alloc: Global,
     names: &Names,
+    call: &str,
     words: &[&str],
 ) -> Result<String, RowFault> {
-    match words {
-        ["read", journal] => journals::read(alloc, &names.bytes(alloc, journal)?),
-        ["read-cut", journal] => journals::read_cut(alloc, &names.bytes(alloc, journal)?),
-        ["read-failing", journal] => journals::read_failing(alloc, &names.bytes(alloc, journal)?),
-        ["write", first, size, piece, failing, entries @ ..] => {
-            let sink = journals::sink_of(alloc, size, piece, failing)?;
-            journals::write(alloc, names, first, sink, entries)
-        }
-        ["book", capacity, steps @ ..] => journals::keep(alloc, names, capacity, steps),
-        ["desk", capacity, payload] => desks::share(rt, alloc, names, capacity, payload),
-        ["connection", capacity, sent] => {
-            connections::serve(rt, alloc, capacity, &names.bytes(alloc, sent)?)
-        }
-        ["connection-failing", calls, most, piece, sent] => connections::serve_failing(
-            rt,
-            alloc,
-            calls,
-            most,
-            piece,
-            &names.bytes(alloc, sent)?,
-        ),
-        ["worker", capacity, each, failing, conns @ ..] => {
-            connections::work(rt, alloc, names, capacity, each, failing, conns)
-        }
-        ["server", parts @ ..] => servers::serve(rt, alloc, names, parts),
-        _ => Err(RowFault::Unread),
+    match call {
+        "desk" => desks::share(rt, alloc, names, words),
+        "connection" => connections::serve(rt, alloc, names, words),
+        "connection-failing" => connections::serve_failing(rt, alloc, names, words),
+        "worker" => connections::work(rt, alloc, names, words),
+        "server" => servers::serve(rt, alloc, names, words),
+        _ => journals::answer(alloc, names, call, words),
     }
 }
 
@@ -68,11 +50,14 @@ fn run<R: Threads + Wait + Sync>(
     line: &str,
 ) -> Result<Option<String>, RowFault> {
     let words = words_of(alloc, line)?;
-    if let ["let", name, bytes] = words.as_slice() {
-        names.add(alloc, name, bytes)?;
+    let Some((call, words)) = words.split_first() else {
+        return Err(RowFault::Unread);
+    };
+    if *call == "let" {
+        names.add(alloc, words)?;
         return Ok(None);
     }
-    Ok(Some(answer(rt, alloc, names, &words)?))
+    Ok(Some(answer(rt, alloc, names, call, words)?))
 }
 
 fn main(rt: HostRuntime) -> io::Result<()> {
@@ -86,7 +71,7 @@ fn main(rt: HostRuntime) -> io::Result<()> {
             match run(&rt, alloc, &mut names, &line) {
                 Ok(Some(answer)) => println!(rt; "{answer}")?,
                 Ok(None) => {}
-                Err(fault) => println!(rt; "this row {fault}: {line}")?,
+                Err(fault) => println!(rt; "this row {}: {line}", fault.words())?,
             }
         }
     }

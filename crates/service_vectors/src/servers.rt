@@ -15,48 +15,16 @@ use std::thread::Threads;
 // what differs from a house with a seed of zeros and no door, of which no call fails.
 const BETWEEN: &str = ";";
 
-// The calls that fail, of each kind; those of doors, connections and entropies at each of them.
+// The kinds of calls that can fail.
+const KINDS: [&str; 8] = [
+    "openings", "seed", "door", "reads", "writes", "draws", "journal", "out",
+];
+
+// The calls that fail of a kind; those of doors, connections and entropies at each of them.
 #[derive(Drop)]
-struct Fails {
-    openings: Vec<u32>,
-    seed: Vec<u32>,
-    door: Vec<u32>,
-    reads: Vec<u32>,
-    writes: Vec<u32>,
-    draws: Vec<u32>,
-    journal: Vec<u32>,
-    out: Vec<u32>,
-}
-
-impl Fails {
-    fn new(alloc: Global) -> Fails {
-        Fails {
-            openings: Vec::new(alloc),
-            seed: Vec::new(alloc),
-            door: Vec::new(alloc),
-            reads: Vec::new(alloc),
-            writes: Vec::new(alloc),
-            draws: Vec::new(alloc),
-            journal: Vec::new(alloc),
-            out: Vec::new(alloc),
-        }
-    }
-
-    // These calls of a kind fail.
-    fn set(&mut self, kind: &str, calls: Vec<u32>) -> Result<(), RowFault> {
-        match kind {
-            "openings" => self.openings = calls,
-            "seed" => self.seed = calls,
-            "door" => self.door = calls,
-            "reads" => self.reads = calls,
-            "writes" => self.writes = calls,
-            "draws" => self.draws = calls,
-            "journal" => self.journal = calls,
-            "out" => self.out = calls,
-            _ => return Err(RowFault::Unread),
-        }
-        Ok(())
-    }
+struct Fails<'a> {
+    kind: &'a str,
+    calls: Vec<u32>,
 }
 
 // What a row says: the server's words, the seed, what the connections of each door send, the byte that each entropy's
@@ -67,30 +35,56 @@ struct Plan<'a> {
     seed: Vec<u8>,
     doors: Vec<&'a [&'a str]>,
     random: Vec<u8>,
-    fails: Fails,
+    fails: Vec<Fails<'a>>,
 }
 
 impl<'a> Plan<'a> {
     fn new(alloc: Global) -> Result<Plan<'a>, AllocError> {
         Ok(Plan {
-            words: Vec::new(alloc),
             seed: Vec::from_slice(alloc, &[0; 32])?,
+            words: Vec::new(alloc),
             doors: Vec::new(alloc),
             random: Vec::new(alloc),
-            fails: Fails::new(alloc),
+            fails: Vec::new(alloc),
         })
     }
 
     // Takes a part behind the server's words in.
     fn add(&mut self, alloc: Global, names: &Names, part: &'a [&'a str]) -> Result<(), RowFault> {
-        match part {
-            ["seed", bytes] => self.seed = names.bytes(alloc, bytes)?,
-            ["door", sent @ ..] => self.doors.push(sent)?,
-            ["random", bytes] => self.random = names.bytes(alloc, bytes)?,
-            ["fail", kind, calls] => self.fails.set(kind, numbers_of(alloc, calls)?)?,
+        let Some((what, words)) = part.split_first() else {
+            return Err(RowFault::Unread);
+        };
+        match *what {
+            "seed" => self.seed = names.only(alloc, words)?,
+            "door" => self.doors.push(words)?,
+            "random" => self.random = names.only(alloc, words)?,
+            "fail" => self.add_fails(alloc, words)?,
             _ => return Err(RowFault::Unread),
         }
         Ok(())
+    }
+
+    // These calls of a kind fail.
+    fn add_fails(&mut self, alloc: Global, words: &'a [&'a str]) -> Result<(), RowFault> {
+        let [kind, calls] = words else {
+            return Err(RowFault::Unread);
+        };
+        if !KINDS.iter().any(|known| known == kind) {
+            return Err(RowFault::Unread);
+        }
+        let calls = numbers_of(alloc, calls)?;
+        self.fails.push(Fails { kind: *kind, calls })?;
+        Ok(())
+    }
+
+    // The calls that fail of a kind.
+    fn fails(&self, kind: &str) -> &[u32] {
+        for fails in &self.fails {
+            if fails.kind == kind {
+                return &fails.calls;
+            }
+        }
+        &[]
     }
 
     // Takes the server's words in.
@@ -119,10 +113,14 @@ fn plan_of<'a>(alloc: Global, names: &Names, row: &'a [&'a str]) -> Result<Plan<
 fn doors_of(alloc: Global, names: &Names, plan: &Plan<'_>) -> Result<Vec<MemDoor>, RowFault>
     ensures { IfOk result (λ doors. All IsUnused doors.items) }
 {
-    let fails = &plan.fails;
+    let (nexts, reads, writes) = (
+        plan.fails("door"),
+        plan.fails("reads"),
+        plan.fails("writes"),
+    );
     let mut doors = Vec::new(alloc);
     for sent in &plan.doors {
-        doors.push(door_of(alloc, names, sent, &fails.door, &fails.reads, &fails.writes)?)?;
+        doors.push(door_of(alloc, names, sent, nexts, reads, writes)?)?;
     }
     Ok(doors)
 }
@@ -131,22 +129,30 @@ fn doors_of(alloc: Global, names: &Names, plan: &Plan<'_>) -> Result<Vec<MemDoor
 fn entropies_of(alloc: Global, plan: &Plan<'_>) -> Result<Vec<MemEntropy>, AllocError>
     ensures { IfOk result (λ entropies. All (λ entropy. entropy.faults ≡ 0) entropies.items) }
 {
+    let draws = plan.fails("draws");
     let mut entropies = Vec::new(alloc);
     for place in 0..plan.doors.len() {
         let byte = plan.random.get(place).copied().unwrap_or(0);
-        entropies.push(MemEntropy::new(alloc, &[[byte; 32]], &plan.fails.draws)?)?;
+        entropies.push(MemEntropy::new(alloc, &[[byte; 32]], draws)?)?;
     }
     Ok(entropies)
 }
 
 // The house of a row. Its seed gives 20 bytes at most in a read, its journal takes 100 in a write.
 fn house_of(alloc: Global, names: &Names, plan: &Plan<'_>) -> Result<Asked, RowFault> {
-    let seed = MemSource::new(alloc, &plan.seed, 20, &plan.fails.seed)?;
-    let journal = MemSink::new(alloc, 9_000, 100, &plan.fails.journal)?;
+    let seed = MemSource::new(alloc, &plan.seed, 20, plan.fails("seed"))?;
+    let journal = MemSink::new(alloc, 9_000, 100, plan.fails("journal"))?;
     let doors = doors_of(alloc, names, plan)?;
     let entropies = entropies_of(alloc, plan)?;
     Ok(Asked {
-        house: MemHouse::new(alloc, seed, journal, doors, entropies, &plan.fails.openings)?,
+        house: MemHouse::new(
+            alloc,
+            seed,
+            journal,
+            doors,
+            entropies,
+            plan.fails("openings"),
+        )?,
         paths: String::new(alloc),
     })
 }
@@ -167,17 +173,22 @@ fn shown_summary(alloc: Global, printed: &[u8]) -> Result<String, AllocError> {
     Ok(line)
 }
 
+// Appends what each connection got and left that came back to a door.
+fn add_ended(alloc: Global, door: &MemDoor, text: &mut String) -> Result<(), AllocError> {
+    for conn in door.ended() {
+        write!(text, " got {}", shown(alloc, conn.sink().bytes())?)?;
+        write!(text, " left {}", shown(alloc, conn.source().left())?)?;
+    }
+    Ok(())
+}
+
 // What is left of a house: the connections that each door got back, with what they got and left; how many entropies
 // came back; and what the journal got.
 fn shown_house(alloc: Global, house: &MemHouse) -> Result<String, AllocError> {
     let mut text = String::new(alloc);
     for door in house.doors() {
         text.push_str("; door")?;
-        for conn in door.ended() {
-            let got = shown(alloc, conn.sink().bytes())?;
-            let left = shown(alloc, conn.source().left())?;
-            write!(text, " got {got} left {left}")?;
-        }
+        add_ended(alloc, door, &mut text)?;
     }
     write!(text, "; entropies {}", house.entropies().len())?;
     match house.journal_sink() {
@@ -196,12 +207,12 @@ pub(crate) fn serve<R: Threads + Wait + Sync>(
 ) -> Result<String, RowFault> {
     let plan = plan_of(alloc, names, row)?;
     let mut asked = house_of(alloc, names, &plan)?;
-    let mut out = MemSink::new(alloc, 200, 20, &plan.fails.out)?;
+    let mut out = MemSink::new(alloc, 200, 20, plan.fails("out"))?;
     let status = serve_main(rt, alloc, &plan.words, &mut asked, &mut out);
+    let printed = shown_summary(alloc, out.bytes())?;
+    let left = shown_house(alloc, &asked.house)?;
     Ok(format!(in alloc;
-        "status {status}; asked{}; printed {}{}",
-        asked.paths,
-        shown_summary(alloc, out.bytes())?,
-        shown_house(alloc, &asked.house)?
+        "status {status}; asked{}; printed {printed}{left}",
+        asked.paths
     )?)
 }

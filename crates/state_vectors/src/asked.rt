@@ -160,15 +160,15 @@ fn derive(
     caller: &Caller,
     parent: &[u8; 16],
     words: &[&str],
-) -> Result<Vec<u8>, Fault> {
+) -> Result<(), Fault> {
     if !are_known(words, &DERIVE_KEYS) {
         return Err(Fault::Unreadable);
     }
     let code = input_of(alloc, words, "code=", 0x11)?;
     let inline = input_of(alloc, words, "config=", 0x21)?;
-    let descriptor = bytes_of(alloc, both, words, "descriptor=", MOST_DESCRIPTOR)?;
     let authority = input_of(alloc, words, "authority=", 0x31)?;
     let hidden = input_of(alloc, words, "hidden=", 0)?;
+    let descriptor = bytes_of(alloc, both, words, "descriptor=", MOST_DESCRIPTOR)?;
     let config = config_of(words, &inline, &descriptor);
     let hidden = hidden_of(words, &hidden);
     let layer = layer(words, parent, &code, config, &authority, hidden)?;
@@ -181,7 +181,7 @@ fn sign(
     caller: &Caller,
     context: &[u8; 16],
     words: &[&str],
-) -> Result<Vec<u8>, Fault> {
+) -> Result<(), Fault> {
     if !are_known(words, &["label=", "message=", "retain"]) {
         return Err(Fault::Unreadable);
     }
@@ -202,7 +202,7 @@ fn seal(
     caller: &Caller,
     context: &[u8; 16],
     words: &[&str],
-) -> Result<Vec<u8>, Fault> {
+) -> Result<(), Fault> {
     let keys = ["label=", "text=", "localities=", "modes=", "retain"];
     if !are_known(words, &keys) {
         return Err(Fault::Unreadable);
@@ -217,9 +217,9 @@ fn seal(
         modes: number_of(words, "modes=", 15, 15)?,
         plain: &plain,
     });
-    let reply = both.command(alloc, caller, &command)?;
-    both.keep_box(alloc, &reply)?;
-    Ok(reply)
+    both.command(alloc, caller, &command)?;
+    both.keep_box(alloc)?;
+    Ok(())
 }
 
 fn unseal(
@@ -228,7 +228,7 @@ fn unseal(
     caller: &Caller,
     context: &[u8; 16],
     words: &[&str],
-) -> Result<Vec<u8>, Fault> {
+) -> Result<(), Fault> {
     if !are_known(words, &["label=", "box=", "retain"]) {
         return Err(Fault::Unreadable);
     }
@@ -250,21 +250,33 @@ fn use_context(
     caller: &Caller,
     name: &str,
     words: &[&str],
-) -> Result<Vec<u8>, Fault> {
+) -> Result<(), Fault> {
     let Some((context, words)) = words.split_first() else {
         return Err(Fault::Unreadable);
     };
-    let context = handle(alloc, both, context)?;
-    match (name, words) {
-        ("derive", _) => derive(alloc, both, caller, &context, words),
-        ("sign", _) => sign(alloc, both, caller, &context, words),
-        ("seal", _) => seal(alloc, both, caller, &context, words),
-        ("unseal", _) => unseal(alloc, both, caller, &context, words),
-        ("rotate", []) => both.command(alloc, caller, &Command::Rotate(&context)),
-        ("destroy", []) => destroy(alloc, both, caller, &context, false),
-        ("destroy", ["family"]) => destroy(alloc, both, caller, &context, true),
+    let context = &handle(alloc, both, context)?;
+    match name {
+        "derive" => derive(alloc, both, caller, context, words),
+        "sign" => sign(alloc, both, caller, context, words),
+        "seal" => seal(alloc, both, caller, context, words),
+        "unseal" => unseal(alloc, both, caller, context, words),
+        "rotate" => rotate(alloc, both, caller, context, words),
+        "destroy" => destroy(alloc, both, caller, context, words),
         _ => Err(Fault::Unreadable),
     }
+}
+
+fn rotate(
+    alloc: Global,
+    both: &mut Both,
+    caller: &Caller,
+    context: &[u8; 16],
+    words: &[&str],
+) -> Result<(), Fault> {
+    if !words.is_empty() {
+        return Err(Fault::Unreadable);
+    }
+    both.command(alloc, caller, &Command::Rotate(context))
 }
 
 fn destroy(
@@ -272,38 +284,49 @@ fn destroy(
     both: &mut Both,
     caller: &Caller,
     context: &[u8; 16],
-    recursive: bool,
-) -> Result<Vec<u8>, Fault> {
+    words: &[&str],
+) -> Result<(), Fault> {
+    if !are_known(words, &["family"]) {
+        return Err(Fault::Unreadable);
+    }
     let command = Command::Destroy {
         handle: context,
-        recursive,
+        recursive: flag(words, "family"),
     };
     both.command(alloc, caller, &command)
 }
 
-fn payload(alloc: Global, both: &mut Both, caller: &Caller, text: &str) -> Result<Vec<u8>, Fault> {
+fn payload(alloc: Global, both: &mut Both, caller: &Caller, words: &[&str]) -> Result<(), Fault> {
+    let [text] = words else {
+        return Err(Fault::Unreadable);
+    };
     let payload = bytes(alloc, text, 4096, both.sealed())?;
     both.execute(alloc, caller, &payload)
 }
 
-/// The reply to the command of a row: the caller's locality, behind `/` its random bytes, which else are zeros, the
-/// command's name, the handle of the context that it uses, and its arguments.
-pub(crate) fn ask(alloc: Global, both: &mut Both, words: &[&str]) -> Result<Vec<u8>, Fault> {
+// The caller's locality, and behind `/` its random bytes, which else are zeros.
+fn caller_of(alloc: Global, who: &str) -> Result<Caller, Fault> {
+    let (locality, random) = match who.split_once('/') {
+        Some((locality, random)) => (locality, array::<32>(alloc, random)?),
+        None => (who, [0; 32]),
+    };
+    Ok(Caller {
+        locality: small(locality)?,
+        random,
+    })
+}
+
+/// Has both reply to the command of a row: the caller, the command's name, the handle of the context that it uses, and its
+/// arguments.
+pub(crate) fn ask(alloc: Global, both: &mut Both, words: &[&str]) -> Result<(), Fault> {
     let [who, name, words @ ..] = words else {
         return Err(Fault::Unreadable);
     };
-    let (locality, random) = match who.split_once('/') {
-        Some((locality, random)) => (locality, array::<32>(alloc, random)?),
-        None => (*who, [0; 32]),
-    };
-    let caller = Caller {
-        locality: small(locality)?,
-        random,
-    };
-    match (*name, words) {
-        ("profile", []) => both.command(alloc, &caller, &Command::GetProfile),
-        ("initialize", []) => both.command(alloc, &caller, &Command::Initialize),
-        ("payload", [text]) => payload(alloc, both, &caller, text),
-        _ => use_context(alloc, both, &caller, name, words),
+    let caller = &caller_of(alloc, who)?;
+    match *name {
+        "profile" => both.command(alloc, caller, &Command::GetProfile),
+        "initialize" => both.command(alloc, caller, &Command::Initialize),
+        "payload" => payload(alloc, both, caller, words),
+        _ => use_context(alloc, both, caller, name, words),
     }
 }

@@ -3,7 +3,6 @@ ghost use Rattle.std.specs.Prelude.{◌≤◌, ◌<◌, IsTrue, length};
 ghost use Rattle.dpe_messages.specs.CommandRows.{IsCommandWritable};
 
 use crate::fault::Fault;
-use crate::replies::told;
 use dpe_core::Core;
 use dpe_inputs::Count;
 use dpe_messages::{Asked, Command, Reply, read_reply, write_command};
@@ -17,13 +16,16 @@ pub struct Caller {
     pub random: [u8; 32],
 }
 
-/// Both, from the same seed and first serial, the folds that the executor counts, and the box that was sealed last.
+/// Both, from the same seed and first serial, the folds that the executor counts, the box that was sealed last, and what
+/// each replied last.
 #[derive(Drop)]
 pub struct Both {
     core: Core,
     plain: Plain,
     folds: Count,
     sealed: Vec<u8>,
+    by_core: Vec<u8>,
+    by_plain: Vec<u8>,
 }
 
 // Whether both tell the same contexts.
@@ -48,6 +50,8 @@ impl Both {
             plain: Plain::make(alloc, seed, first),
             folds: Count::new(),
             sealed: Vec::new(alloc),
+            by_core: Vec::new(alloc),
+            by_plain: Vec::new(alloc),
         })
     }
 
@@ -65,11 +69,21 @@ impl Both {
     }
 
     /// Keeps the box in the reply to a Seal.
-    pub(crate) fn keep_box(&mut self, alloc: Global, reply: &[u8]) -> Result<(), AllocError> {
-        if let Ok(Reply::Made { bytes, .. }) = read_reply(&Asked::Seal, reply) {
+    pub(crate) fn keep_box(&mut self, alloc: Global) -> Result<(), AllocError> {
+        if let Ok(Reply::Made { bytes, .. }) = read_reply(&Asked::Seal, &self.by_core) {
             self.sealed = Vec::from_slice(alloc, bytes)?;
         }
         Ok(())
+    }
+
+    /// What both replied last, or the executor alone where they differ.
+    pub(crate) fn reply(&self) -> &[u8] {
+        &self.by_core
+    }
+
+    /// What the plain evaluator replied last.
+    pub(crate) fn plain_reply(&self) -> &[u8] {
+        &self.by_plain
     }
 
     /// The box that was sealed last, or no byte before the first.
@@ -91,45 +105,59 @@ impl Both {
         }
     }
 
-    /// The reply of both to a payload, or a line that says where they differ.
+    fn ask_core(&mut self, alloc: Global, caller: &Caller, payload: &[u8]) -> Result<(), Fault> {
+        if caller.locality > 7 || payload.len() > 4096 {
+            return Err(Fault::Unreadable);
+        }
+        let mut room = [0; 4096];
+        let len = self.core.execute(
+            caller.locality,
+            &caller.random,
+            payload,
+            &mut room,
+            &mut self.folds,
+        );
+        self.by_core = Vec::from_slice(alloc, &room[..len])?;
+        Ok(())
+    }
+
+    fn ask_plain(&mut self, alloc: Global, caller: &Caller, payload: &[u8]) -> Result<(), Fault> {
+        if caller.locality > 7 || payload.len() > 4096 {
+            return Err(Fault::Unreadable);
+        }
+        let mut room = [0; 4096];
+        let len = self
+            .plain
+            .execute(alloc, caller.locality, &caller.random, payload, &mut room)?;
+        self.by_plain = Vec::from_slice(alloc, &room[..len])?;
+        Ok(())
+    }
+
+    /// Has both reply to a payload, and sees whether they differ.
     pub(crate) fn execute(
         &mut self,
         alloc: Global,
         caller: &Caller,
         payload: &[u8],
-    ) -> Result<Vec<u8>, Fault> {
-        let Caller { locality, random } = *caller;
-        if locality > 7 || payload.len() > 4096 {
-            return Err(Fault::Unreadable);
-        }
-        let mut room = [0; 4096];
-        let len = self
-            .core
-            .execute(locality, &random, payload, &mut room, &mut self.folds);
-        let mut other = [0; 4096];
-        let other_len = self
-            .plain
-            .execute(alloc, locality, &random, payload, &mut other)?;
-        let (reply, other) = (&room[..len], &other[..other_len]);
-        if reply != other {
-            return Err(Fault::Differ {
-                core: told(alloc, reply)?,
-                plain: told(alloc, other)?,
-            });
+    ) -> Result<(), Fault> {
+        self.ask_core(alloc, caller, payload)?;
+        self.ask_plain(alloc, caller, payload)?;
+        if self.by_core.as_slice() != self.by_plain.as_slice() {
+            return Err(Fault::Differ);
         }
         if !same_contexts(&self.core, &self.plain) {
             return Err(Fault::ContextsDiffer);
         }
-        Ok(Vec::from_slice(alloc, reply)?)
+        Ok(())
     }
 
-    /// The reply of both to a command.
+    /// Has both reply to a command.
     pub(crate) fn command(
         &mut self,
         alloc: Global,
         caller: &Caller,
         command: &Command<'_>,
-    ) -> Result<Vec<u8>, Fault>
+    ) -> Result<(), Fault>
         requires { IsCommandWritable command.now }
     {
         let mut room = [0; 4096];

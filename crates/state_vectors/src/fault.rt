@@ -2,14 +2,14 @@
 use std::alloc::AllocError;
 
 /// Why a row has no answer.
-#[derive(Debug, Drop)]
+#[derive(Clone, Copy)]
 pub enum Fault {
     /// The row has another form than the table's head tells.
     Unreadable,
     /// What the call asks for doesn't hold.
     Unmet,
     /// The executor and the plain evaluator reply otherwise.
-    Differ { core: String, plain: String },
+    Differ,
     /// They tell other contexts.
     ContextsDiffer,
     /// There is no memory.

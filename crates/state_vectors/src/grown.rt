@@ -185,17 +185,26 @@ impl Grown {
         }
         let depth = self.tree.depth(place);
         let mode = self.tree.mode(place);
-        let from = match self.tree.lineage_step(place) {
-            Some((parent, birth)) => {
-                format!(in alloc; "below {} by {birth}", self.context_at(parent))?
-            }
-            None => format!(in alloc; "the root")?,
-        };
+        let step = self.tree.lineage_step(place);
+        let from = self.told_step(alloc, step)?;
         let seal = printed(alloc, &self.tree.cdis(place).seal)?;
         Ok(format!(in alloc; "depth {depth}, mode {mode}, {from}, {seal}")?)
     }
 
-    fn below(&self, alloc: Global, above: &str, place: &str) -> Result<String, Fault> {
+    // The parent, and the serial of a birth.
+    fn told_step(&self, alloc: Global, step: Option<(Place, u64)>) -> Result<String, AllocError> {
+        match step {
+            Some((parent, birth)) => {
+                format!(in alloc; "below {} by {birth}", self.context_at(parent))
+            }
+            None => String::from_str(alloc, "the root"),
+        }
+    }
+
+    fn below(&self, alloc: Global, words: &[&str]) -> Result<String, Fault> {
+        let [above, place] = words else {
+            return Err(Fault::Unreadable);
+        };
         let above = self.place(above)?;
         let place = self.place(place)?;
         if !is_used(&self.tree, &self.places, above) || !is_used(&self.tree, &self.places, place) {
@@ -206,21 +215,38 @@ impl Grown {
         } else {
             "no"
         };
-        Ok(format!(in alloc; "{answer}")?)
+        Ok(String::from_str(alloc, answer)?)
+    }
+
+    fn end(&mut self, alloc: Global, context: &str) -> Result<String, Fault> {
+        let place = self.place(context)?;
+        self.retire(place)?;
+        Ok(format!(in alloc; "{} live", self.live)?)
     }
 
     /// The line of a row.
-    pub(crate) fn answer(&mut self, alloc: Global, words: &[&str]) -> Result<String, Fault> {
-        match words {
-            ["add", words @ ..] => self.make(alloc, words, true),
-            ["replace", words @ ..] => self.make(alloc, words, false),
-            ["retire", context] => {
-                let place = self.place(context)?;
-                self.retire(place)?;
-                Ok(format!(in alloc; "{} live", self.live)?)
-            }
-            ["tell", context] => self.tell(alloc, context),
-            ["below", above, place] => self.below(alloc, above, place),
+    pub(crate) fn answer(
+        &mut self,
+        alloc: Global,
+        call: &str,
+        words: &[&str],
+    ) -> Result<String, Fault> {
+        match call {
+            "add" => self.make(alloc, words, true),
+            "replace" => self.make(alloc, words, false),
+            "below" => self.below(alloc, words),
+            _ => self.answer_for(alloc, call, words),
+        }
+    }
+
+    // The line of a row about one context.
+    fn answer_for(&mut self, alloc: Global, call: &str, words: &[&str]) -> Result<String, Fault> {
+        let [context] = words else {
+            return Err(Fault::Unreadable);
+        };
+        match call {
+            "retire" => self.end(alloc, context),
+            "tell" => self.tell(alloc, context),
             _ => Err(Fault::Unreadable),
         }
     }

@@ -66,7 +66,10 @@ fn told(alloc: Global, row: &Row) -> Result<String, AllocError> {
 }
 
 // Rows of serials from the first on, each so many greater than the one before.
-fn fill(table: &mut Table, first: &str, step: &str, count: &str) -> Result<(), Fault> {
+fn fill(table: &mut Table, words: &[&str]) -> Result<(), Fault> {
+    let [first, step, count] = words else {
+        return Err(Fault::Unreadable);
+    };
     let mut serial = number(first)?;
     let step = number(step)?;
     for _ in 0..number(count)? {
@@ -83,16 +86,20 @@ fn found(table: &Table, handle: &[u8; 16]) -> (Option<usize>, u32) {
     (at, steps.taken)
 }
 
-fn find(alloc: Global, table: &Table, handle: &[u8; 16]) -> Result<String, AllocError> {
-    match found(table, handle) {
-        (Some(at), steps) => format!(in alloc; "at {at}, {steps} looked at"),
-        (None, steps) => format!(in alloc; "none, {steps} looked at"),
+fn find(alloc: Global, table: &Table, words: &[&str]) -> Result<String, Fault> {
+    let (serial, last) = named(words)?;
+    match found(table, &handle_of(serial, last)) {
+        (Some(at), steps) => Ok(format!(in alloc; "at {at}, {steps} looked at")?),
+        (None, steps) => Ok(format!(in alloc; "none, {steps} looked at")?),
     }
 }
 
 // Looks for handles of serials from the first on, two apart: how many stand at their turn and how many nowhere, and
 // the fewest and the most rows that were looked at.
-fn search(alloc: Global, table: &Table, first: &str, count: &str) -> Result<String, Fault> {
+fn search(alloc: Global, table: &Table, words: &[&str]) -> Result<String, Fault> {
+    let [first, count] = words else {
+        return Err(Fault::Unreadable);
+    };
     let mut serial = number(first)?;
     let (mut here, mut nowhere) = (0u32, 0u32);
     let (mut fewest, mut most) = (u32::MAX, 0);
@@ -110,9 +117,12 @@ fn search(alloc: Global, table: &Table, first: &str, count: &str) -> Result<Stri
     Ok(format!(in alloc; "{here} at their turn, {nowhere} nowhere, {fewest} to {most} looked at")?)
 }
 
-fn place(table: &Table, at: &str) -> Result<usize, Fault>
+fn place(table: &Table, words: &[&str]) -> Result<usize, Fault>
     ensures { IfOk result (λ at. at < length table.now) }
 {
+    let [at] = words else {
+        return Err(Fault::Unreadable);
+    };
     match at.parse::<usize>() {
         Ok(at) if at < table.len() => Ok(at),
         Ok(_) => Err(Fault::Unmet),
@@ -124,25 +134,53 @@ fn length(alloc: Global, table: &Table) -> Result<String, Fault> {
     Ok(format!(in alloc; "{} rows", table.len())?)
 }
 
+// A serial, and the byte behind it.
+fn named(words: &[&str]) -> Result<(u64, u8), Fault> {
+    let [serial, last] = words else {
+        return Err(Fault::Unreadable);
+    };
+    Ok((number(serial)?, small(last)?))
+}
+
+fn issue_row(table: &mut Table, words: &[&str]) -> Result<(), Fault> {
+    let (serial, last) = named(words)?;
+    issue(table, row_of(serial, last))
+}
+
+fn spend(alloc: Global, table: &mut Table, words: &[&str]) -> Result<String, Fault> {
+    let at = place(table, words)?;
+    Ok(told(alloc, &table.spend(at))?)
+}
+
+fn row(alloc: Global, table: &Table, words: &[&str]) -> Result<String, Fault> {
+    let at = place(table, words)?;
+    Ok(told(alloc, table.row(at))?)
+}
+
 /// The line of a row.
 pub(crate) fn answer(alloc: Global, table: &mut Table, words: &[&str]) -> Result<String, Fault> {
-    match words {
-        ["new"] => *table = Table::make(alloc)?,
-        ["fill", first, step, count] => fill(table, first, step, count)?,
-        ["issue", serial, last] => issue(table, row_of(number(serial)?, small(last)?))?,
-        ["spend", at] => {
-            let at = place(table, at)?;
-            return Ok(told(alloc, &table.spend(at))?);
+    let Some((call, words)) = words.split_first() else {
+        return Err(Fault::Unreadable);
+    };
+    match *call {
+        "spend" => spend(alloc, table, words),
+        "row" => row(alloc, table, words),
+        "find" => find(alloc, table, words),
+        "search" => search(alloc, table, words),
+        call => {
+            change(alloc, table, call, words)?;
+            length(alloc, table)
         }
-        ["row", at] => {
-            let at = place(table, at)?;
-            return Ok(told(alloc, table.row(at))?);
-        }
-        ["find", serial, last] => {
-            return Ok(find(alloc, table, &handle_of(number(serial)?, small(last)?))?);
-        }
-        ["search", first, count] => return search(alloc, table, first, count),
+    }
+}
+
+// What leaves the table another.
+fn change(alloc: Global, table: &mut Table, call: &str, words: &[&str]) -> Result<(), Fault> {
+    match call {
+        "new" => *table = Table::make(alloc)?,
+        "fill" => fill(table, words)?,
+        "issue" => issue_row(table, words)?,
         _ => return Err(Fault::Unreadable),
     }
-    length(alloc, table)
+    Ok(())
 }

@@ -8,6 +8,7 @@ use crate::handles;
 use crate::replies::{printed, told};
 use dpe_handles::Table;
 use dpe_messages::reply_code;
+use dpe_model::LiveRow;
 use sha2::{Digest, Sha256};
 use std::alloc::{AllocError, Global};
 
@@ -20,35 +21,73 @@ pub struct Trial {
 }
 
 // What is told of the context at a place.
-fn context(alloc: Global, both: &Both, place: &str) -> Result<String, Fault> {
+fn context(alloc: Global, both: &Both, words: &[&str]) -> Result<String, Fault> {
+    let [place] = words else {
+        return Err(Fault::Unreadable);
+    };
     let Ok(at) = place.parse::<u32>() else {
         return Err(Fault::Unreadable);
     };
-    let Some(row) = both.row(at) else {
-        return Ok(format!(in alloc; "no context")?);
-    };
-    let handle = printed(alloc, &row.handle)?;
-    let derives = if row.may_derive { "derives" } else { "final" };
-    Ok(format!(in alloc;
-        "{handle} at locality {}, depth {}, mode {}, {derives}",
-        row.locality, row.depth, row.mode
-    )?)
+    match both.row(at) {
+        Some(row) => Ok(told_context(alloc, &row)?),
+        None => Ok(String::from_str(alloc, "no context")?),
+    }
 }
 
-// The same commands, with `;` between them, so many times. A hash of all replies, one behind the other, tells them.
-fn repeated(alloc: Global, both: &mut Both, times: &str, words: &[&str]) -> Result<String, Fault> {
-    let (mut asked, mut accepted) = (0u64, 0u64);
-    let mut replies = Sha256::new();
-    for _ in 0..number(times)? {
-        for command in words.split(|word| *word == ";") {
-            let reply = ask(alloc, both, command)?;
-            asked = asked.saturating_add(1);
-            if reply_code(&reply) == Some(0) {
-                accepted = accepted.saturating_add(1);
-            }
-            replies.update(reply.as_slice());
+fn told_context(alloc: Global, row: &LiveRow) -> Result<String, AllocError> {
+    let handle = printed(alloc, &row.handle)?;
+    let derives = if row.may_derive { "derives" } else { "final" };
+    format!(in alloc;
+        "{handle} at locality {}, depth {}, mode {}, {derives}",
+        row.locality, row.depth, row.mode
+    )
+}
+
+// How many commands were asked and accepted, and all replies, one behind the other.
+#[derive(Drop)]
+struct Tally {
+    asked: u64,
+    accepted: u64,
+    replies: Sha256,
+}
+
+impl Tally {
+    fn add(&mut self, reply: &[u8]) {
+        self.asked = self.asked.saturating_add(1);
+        if reply_code(reply) == Some(0) {
+            self.accepted = self.accepted.saturating_add(1);
         }
+        self.replies.update(reply);
     }
+}
+
+// The commands, with `;` between them, once.
+fn ask_all(alloc: Global, both: &mut Both, words: &[&str], tally: &mut Tally) -> Result<(), Fault> {
+    for command in words.split(|word| *word == ";") {
+        ask(alloc, both, command)?;
+        tally.add(both.reply());
+    }
+    Ok(())
+}
+
+// The same commands so many times. A hash of all replies tells them.
+fn repeated(alloc: Global, both: &mut Both, words: &[&str]) -> Result<String, Fault> {
+    let Some((times, words)) = words.split_first() else {
+        return Err(Fault::Unreadable);
+    };
+    let mut tally = Tally {
+        asked: 0,
+        accepted: 0,
+        replies: Sha256::new(),
+    };
+    for _ in 0..number(times)? {
+        ask_all(alloc, both, words, &mut tally)?;
+    }
+    let Tally {
+        asked,
+        accepted,
+        replies,
+    } = tally;
     let digest = hex::encode(alloc, replies.finalize())?;
     Ok(format!(in alloc; "{accepted} of {asked} accepted, sha256 {digest}")?)
 }
@@ -63,7 +102,10 @@ impl Trial {
         })
     }
 
-    fn begin(&mut self, alloc: Global, seed: &str, first: &str) -> Result<String, Fault> {
+    fn begin(&mut self, alloc: Global, words: &[&str]) -> Result<String, Fault> {
+        let [seed, first] = words else {
+            return Err(Fault::Unreadable);
+        };
         let seed = array::<32>(alloc, seed)?;
         self.both.begin(alloc, &seed, number(first)?)?;
         self.counts(alloc)
@@ -74,38 +116,59 @@ impl Trial {
         Ok(format!(in alloc; "{live} live, {folds} folds")?)
     }
 
-    fn plant(&mut self, alloc: Global, mark: &str) -> Result<String, Fault> {
+    fn tree_row(&mut self, alloc: Global, words: &[&str]) -> Result<String, Fault> {
+        let Some((call, others)) = words.split_first() else {
+            return Err(Fault::Unreadable);
+        };
+        match *call {
+            "root" => self.plant(alloc, others),
+            call => self.grown.answer(alloc, call, others),
+        }
+    }
+
+    fn plant(&mut self, alloc: Global, words: &[&str]) -> Result<String, Fault> {
+        let [mark] = words else {
+            return Err(Fault::Unreadable);
+        };
         self.grown = Grown::start(alloc, small(mark)?)?;
-        Ok(format!(in alloc; "0")?)
+        Ok(String::from_str(alloc, "0")?)
+    }
+
+    fn command(&mut self, alloc: Global, words: &[&str]) -> Result<String, Fault> {
+        ask(alloc, &mut self.both, words)?;
+        Ok(told(alloc, self.both.reply())?)
     }
 
     fn try_row(&mut self, alloc: Global, words: &[&str]) -> Result<String, Fault> {
-        match words {
-            ["start", seed, first] => self.begin(alloc, seed, first),
-            ["counts"] => self.counts(alloc),
-            ["context", place] => context(alloc, &self.both, place),
-            ["tree", "root", mark] => self.plant(alloc, mark),
-            ["tree", words @ ..] => self.grown.answer(alloc, words),
-            ["table", words @ ..] => handles::answer(alloc, &mut self.table, words),
-            ["repeat", times, words @ ..] => repeated(alloc, &mut self.both, times, words),
-            _ => Ok(told(alloc, &ask(alloc, &mut self.both, words)?)?),
+        let Some((call, others)) = words.split_first() else {
+            return Err(Fault::Unreadable);
+        };
+        match *call {
+            "start" => self.begin(alloc, others),
+            "counts" => self.counts(alloc),
+            "context" => context(alloc, &self.both, others),
+            "tree" => self.tree_row(alloc, others),
+            "table" => handles::answer(alloc, &mut self.table, others),
+            "repeat" => repeated(alloc, &mut self.both, others),
+            _ => self.command(alloc, words),
         }
+    }
+
+    fn difference(&self, alloc: Global) -> Result<String, AllocError> {
+        let core = told(alloc, self.both.reply())?;
+        let plain = told(alloc, self.both.plain_reply())?;
+        format!(in alloc; "THEY DIFFER: {core} by the executor, {plain} by the plain one")
     }
 
     /// The line that a row's call or command gives.
     pub(crate) fn answer(&mut self, alloc: Global, row: &str) -> Result<String, AllocError> {
-        let mut words = Vec::new(alloc);
-        for word in row.split_whitespace() {
-            words.push(word)?;
-        }
+        let words: Vec<&str> = row.split_whitespace().collect(alloc)?;
         match self.try_row(alloc, &words) {
             Ok(line) => Ok(line),
-            Err(Fault::Unreadable) => format!(in alloc; "NOT A ROW"),
-            Err(Fault::Differ { core, plain }) => {
-                format!(in alloc; "THEY DIFFER: {core} by the executor, {plain} by the plain one")
-            }
-            Err(Fault::ContextsDiffer) => format!(in alloc; "THEY TELL OTHER CONTEXTS"),
-            Err(Fault::Unmet) => format!(in alloc; "may not be called"),
+            Err(Fault::Unreadable) => String::from_str(alloc, "NOT A ROW"),
+            Err(Fault::Differ) => self.difference(alloc),
+            Err(Fault::ContextsDiffer) => String::from_str(alloc, "THEY TELL OTHER CONTEXTS"),
+            Err(Fault::Unmet) => String::from_str(alloc, "may not be called"),
             Err(Fault::Memory) => Err(AllocError),
         }
     }

@@ -2,89 +2,93 @@
 ghost use Rattle.std.specs.Prelude.{◌≤◌, length, IfOk, IfSome};
 ghost use Rattle.dpe_messages.specs.CommandRows.{IsCommandWritable, IsShort};
 
-use crate::values::{Answer, RowFault, array, array_or_none, at_most, number_to, show, truth};
+use crate::told::{Told, field, field_or_none, flag, number, put, show};
+use crate::values::{RowFault, Word};
 use dpe_messages::{
     Command, Config, Derive, Refusal, Seal, Sign, Unseal, read_payload, write_command,
 };
-use std::alloc::Global;
 
-/// The command that a payload asks for, with its arguments, or why it is none.
-pub(crate) fn read(alloc: Global, payload: &[u8]) -> Answer {
+/// Tells the command that a payload asks for, with its arguments, or why it is none.
+pub(crate) fn read(payload: &[u8], told: &mut String) -> Told {
     match read_payload(payload) {
-        Ok(command) => describe(alloc, &command),
-        Err(Refusal::NotACommand) => Ok(String::from_str(alloc, "2 not a command")?),
-        Err(Refusal::BadArguments) => Ok(String::from_str(alloc, "3 bad arguments")?),
-        Err(Refusal::Unsupported) => Ok(String::from_str(alloc, "16 unsupported")?),
+        Ok(command) => describe(&command, told),
+        Err(Refusal::NotACommand) => put(told, "2 not a command"),
+        Err(Refusal::BadArguments) => put(told, "3 bad arguments"),
+        Err(Refusal::Unsupported) => put(told, "16 unsupported"),
     }
 }
 
-fn describe(alloc: Global, command: &Command<'_>) -> Answer {
+fn describe(command: &Command<'_>, told: &mut String) -> Told {
     match command {
-        Command::GetProfile => Ok(String::from_str(alloc, "GetProfile")?),
-        Command::Initialize => Ok(String::from_str(alloc, "InitializeContext")?),
-        Command::Derive(derive) => describe_derive(alloc, derive),
-        Command::Sign(sign) => describe_sign(alloc, sign),
-        Command::Seal(seal) => describe_seal(alloc, seal),
-        Command::Unseal(unseal) => describe_unseal(alloc, unseal),
-        Command::Rotate(handle) => {
-            let handle = show(alloc, *handle)?;
-            Ok(format!(in alloc; "RotateContextHandle {handle}")?)
-        }
+        Command::GetProfile => put(told, "GetProfile"),
+        Command::Initialize => put(told, "InitializeContext"),
+        Command::Derive(derive) => describe_derive(derive, told),
+        Command::Sign(sign) => describe_sign(sign, told),
+        Command::Seal(seal) => describe_seal(seal, told),
+        Command::Unseal(unseal) => describe_unseal(unseal, told),
+        Command::Rotate(handle) => field(told, "RotateContextHandle ", *handle),
         Command::Destroy { handle, recursive } => {
-            let handle = show(alloc, *handle)?;
-            Ok(format!(in alloc; "DestroyContext {handle} recursive {recursive}")?)
+            field(told, "DestroyContext ", *handle)?;
+            flag(told, " recursive ", *recursive)
         }
     }
 }
 
-fn describe_derive(alloc: Global, derive: &Derive<'_>) -> Answer {
+fn describe_derive(derive: &Derive<'_>, told: &mut String) -> Told {
     let Derive {
         handle,
         code,
-        config,
         authority,
         mode,
         hidden,
-        retain,
-        may_derive,
-        locality,
+        ..
     } = *derive;
-    let handle = show(alloc, handle)?;
-    let code = show(alloc, code)?;
-    let config = match config {
-        Config::Inline(config) => format!(in alloc; "config {}", show(alloc, config)?)?,
-        Config::Descriptor(bytes) => format!(in alloc; "descriptor {}", show(alloc, bytes)?)?,
-    };
-    let authority = show(alloc, authority)?;
-    let hidden = match hidden {
-        Some(hidden) => show(alloc, hidden)?,
-        None => String::from_str(alloc, "none")?,
-    };
-    let locality = match locality {
-        Some(locality) => format!(in alloc; "{locality}")?,
-        None => String::from_str(alloc, "none")?,
-    };
-    let inputs = format!(in alloc;
-        "code {code} {config} authority {authority} mode {mode} hidden {hidden}"
-    )?;
-    let rest = format!(in alloc; "retain {retain} may-derive {may_derive} locality {locality}")?;
-    Ok(format!(in alloc; "DeriveContext {handle} {inputs} {rest}")?)
+    field(told, "DeriveContext ", handle)?;
+    field(told, " code ", code)?;
+    describe_config(&derive.config, told)?;
+    field(told, " authority ", authority)?;
+    number(told, " mode ", u64::from(mode))?;
+    describe_hidden(hidden, told)?;
+    describe_child(derive, told)
 }
 
-fn describe_sign(alloc: Global, sign: &Sign<'_>) -> Answer {
+fn describe_config(config: &Config<'_>, told: &mut String) -> Told {
+    match config {
+        Config::Inline(config) => field(told, " config ", *config),
+        Config::Descriptor(bytes) => field(told, " descriptor ", *bytes),
+    }
+}
+
+fn describe_hidden(hidden: Option<&[u8; 64]>, told: &mut String) -> Told {
+    match hidden {
+        Some(hidden) => field_or_none(told, " hidden ", Some(hidden)),
+        None => field_or_none(told, " hidden ", None),
+    }
+}
+
+fn describe_child(derive: &Derive<'_>, told: &mut String) -> Told {
+    flag(told, " retain ", derive.retain)?;
+    flag(told, " may-derive ", derive.may_derive)?;
+    match derive.locality {
+        Some(locality) => number(told, " locality ", u64::from(locality)),
+        None => put(told, " locality none"),
+    }
+}
+
+fn describe_sign(sign: &Sign<'_>, told: &mut String) -> Told {
     let Sign {
         handle,
         label,
         retain,
         message,
     } = *sign;
-    let handle = show(alloc, handle)?;
-    let label = show(alloc, label)?;
-    let message = show(alloc, message)?;
-    Ok(format!(in alloc; "Sign {handle} label {label} retain {retain} message {message}")?)
+    field(told, "Sign ", handle)?;
+    field(told, " label ", label)?;
+    flag(told, " retain ", retain)?;
+    field(told, " message ", message)
 }
 
-fn describe_seal(alloc: Global, seal: &Seal<'_>) -> Answer {
+fn describe_seal(seal: &Seal<'_>, told: &mut String) -> Told {
     let Seal {
         handle,
         label,
@@ -93,87 +97,102 @@ fn describe_seal(alloc: Global, seal: &Seal<'_>) -> Answer {
         modes,
         plain,
     } = *seal;
-    let handle = show(alloc, handle)?;
-    let label = show(alloc, label)?;
-    let plain = show(alloc, plain)?;
-    let whom = format!(in alloc; "localities {localities} modes {modes}")?;
-    Ok(format!(in alloc; "Seal {handle} label {label} retain {retain} {whom} plain {plain}")?)
+    field(told, "Seal ", handle)?;
+    field(told, " label ", label)?;
+    flag(told, " retain ", retain)?;
+    number(told, " localities ", u64::from(localities))?;
+    number(told, " modes ", u64::from(modes))?;
+    field(told, " plain ", plain)
 }
 
-fn describe_unseal(alloc: Global, unseal: &Unseal<'_>) -> Answer {
+fn describe_unseal(unseal: &Unseal<'_>, told: &mut String) -> Told {
     let Unseal {
         handle,
         label,
         retain,
         sealed,
     } = *unseal;
-    let handle = show(alloc, handle)?;
-    let label = show(alloc, label)?;
-    let sealed = show(alloc, sealed)?;
-    Ok(format!(in alloc; "Unseal {handle} label {label} retain {retain} box {sealed}")?)
+    field(told, "Unseal ", handle)?;
+    field(told, " label ", label)?;
+    flag(told, " retain ", retain)?;
+    field(told, " box ", sealed)
 }
 
-/// The payload that asks for a command.
-pub(crate) fn write(alloc: Global, words: &[&str]) -> Answer {
-    match words {
-        ["GetProfile"] => written(alloc, &Command::GetProfile),
-        ["InitializeContext"] => written(alloc, &Command::Initialize),
-        ["DeriveContext", handle, others @ ..] => write_derive(alloc, handle, others),
-        ["Sign", handle, label, retain, message] => {
-            let label = at_most(alloc, label, 64)?;
-            let message = at_most(alloc, message, 2048)?;
-            let sign = Sign {
-                handle: &array(alloc, handle)?,
-                label: &label,
-                retain: truth(retain)?,
-                message: &message,
-            };
-            written(alloc, &Command::Sign(sign))
-        }
-        ["Seal", handle, label, retain, localities, modes, plain] => {
-            let label = at_most(alloc, label, 64)?;
-            let plain = at_most(alloc, plain, 2048)?;
-            let seal = Seal {
-                handle: &array(alloc, handle)?,
-                label: &label,
-                retain: truth(retain)?,
-                localities: number_to(localities, 255)?,
-                modes: number_to(modes, 15)?,
-                plain: &plain,
-            };
-            written(alloc, &Command::Seal(seal))
-        }
-        ["Unseal", handle, label, retain, sealed] => {
-            let label = at_most(alloc, label, 64)?;
-            let sealed = at_most(alloc, sealed, 3900)?;
-            let unseal = Unseal {
-                handle: &array(alloc, handle)?,
-                label: &label,
-                retain: truth(retain)?,
-                sealed: &sealed,
-            };
-            written(alloc, &Command::Unseal(unseal))
-        }
-        ["RotateContextHandle", handle] => {
-            written(alloc, &Command::Rotate(&array(alloc, handle)?))
-        }
-        ["DestroyContext", handle, recursive] => {
-            let handle = array(alloc, handle)?;
-            let recursive = truth(recursive)?;
-            written(
-                alloc,
-                &Command::Destroy {
-                    handle: &handle,
-                    recursive,
-                },
-            )
-        }
+/// Tells the payload that asks for a command.
+pub(crate) fn write(name: &str, words: &[Word<'_>], told: &mut String) -> Told {
+    match name {
+        "GetProfile" => written(&Command::GetProfile, told),
+        "InitializeContext" => written(&Command::Initialize, told),
+        "RotateContextHandle" => write_rotate(words, told),
+        "DestroyContext" => write_destroy(words, told),
+        "DeriveContext" => write_derive(words, told),
+        "Sign" => write_sign(words, told),
+        "Seal" => write_seal(words, told),
+        "Unseal" => write_unseal(words, told),
         _ => Err(RowFault::Unreadable),
     }
 }
 
-fn write_derive(alloc: Global, handle: &str, words: &[&str]) -> Answer {
+fn write_rotate(words: &[Word<'_>], told: &mut String) -> Told {
+    let [handle] = words else {
+        return Err(RowFault::Unreadable);
+    };
+    written(&Command::Rotate(&handle.array()?), told)
+}
+
+fn write_destroy(words: &[Word<'_>], told: &mut String) -> Told {
+    let [handle, recursive] = words else {
+        return Err(RowFault::Unreadable);
+    };
+    let handle = &handle.array()?;
+    let recursive = recursive.truth()?;
+    written(&Command::Destroy { handle, recursive }, told)
+}
+
+fn write_sign(words: &[Word<'_>], told: &mut String) -> Told {
+    let [handle, label, retain, message] = words else {
+        return Err(RowFault::Unreadable);
+    };
+    let sign = Sign {
+        handle: &handle.array()?,
+        label: label.at_most(64)?,
+        retain: retain.truth()?,
+        message: message.at_most(2048)?,
+    };
+    written(&Command::Sign(sign), told)
+}
+
+fn write_seal(words: &[Word<'_>], told: &mut String) -> Told {
+    let [handle, label, retain, localities, modes, plain] = words else {
+        return Err(RowFault::Unreadable);
+    };
+    let seal = Seal {
+        handle: &handle.array()?,
+        label: label.at_most(64)?,
+        retain: retain.truth()?,
+        localities: localities.number_to(255)?,
+        modes: modes.number_to(15)?,
+        plain: plain.at_most(2048)?,
+    };
+    written(&Command::Seal(seal), told)
+}
+
+fn write_unseal(words: &[Word<'_>], told: &mut String) -> Told {
+    let [handle, label, retain, sealed] = words else {
+        return Err(RowFault::Unreadable);
+    };
+    let unseal = Unseal {
+        handle: &handle.array()?,
+        label: label.at_most(64)?,
+        retain: retain.truth()?,
+        sealed: sealed.at_most(3900)?,
+    };
+    written(&Command::Unseal(unseal), told)
+}
+
+fn write_derive(words: &[Word<'_>], told: &mut String) -> Told {
     let [
+        handle,
         code,
         kind,
         config,
@@ -183,34 +202,39 @@ fn write_derive(alloc: Global, handle: &str, words: &[&str]) -> Answer {
         retain,
         may_derive,
         locality,
-    ] = *words
+    ] = words
     else {
         return Err(RowFault::Unreadable);
     };
-    let handle = array(alloc, handle)?;
-    let code = array(alloc, code)?;
-    let authority = array(alloc, authority)?;
-    let hidden: Option<[u8; 64]> = array_or_none(alloc, hidden)?;
-    let bytes = at_most(alloc, config, 1024)?;
-    let inline = match kind {
-        "config" => array(alloc, config)?,
-        "descriptor" => [0; 64],
-        _ => return Err(RowFault::Unreadable),
-    };
-    let config = config_of(kind, &inline, &bytes);
+    let handle = handle.array()?;
+    let code = code.array()?;
+    let inline = inline_of(kind.text, config)?;
+    let descriptor = config.at_most(1024)?;
+    let authority = authority.array()?;
+    let hidden: Option<[u8; 64]> = hidden.array_or_none()?;
+    let config = config_of(kind.text, &inline, descriptor);
     let hidden = hidden.as_ref();
     let derive = Derive {
         handle: &handle,
         code: &code,
         config,
         authority: &authority,
-        mode: number_to(mode, 3)?,
+        mode: mode.number_to(3)?,
         hidden,
-        retain: truth(retain)?,
-        may_derive: truth(may_derive)?,
+        retain: retain.truth()?,
+        may_derive: may_derive.truth()?,
         locality: locality_or_none(locality)?,
     };
-    written(alloc, &Command::Derive(derive))
+    written(&Command::Derive(derive), told)
+}
+
+// The configuration itself, or zeros where it is a descriptor.
+fn inline_of(kind: &str, config: &Word<'_>) -> Result<[u8; 64], RowFault> {
+    match kind {
+        "config" => config.array(),
+        "descriptor" => Ok([0; 64]),
+        _ => Err(RowFault::Unreadable),
+    }
 }
 
 // The configuration itself, or a descriptor of it.
@@ -224,19 +248,19 @@ fn config_of<'a>(kind: &str, inline: &'a [u8; 64], descriptor: &'a [u8]) -> Conf
     }
 }
 
-fn locality_or_none(word: &str) -> Result<Option<u8>, RowFault>
+fn locality_or_none(word: &Word<'_>) -> Result<Option<u8>, RowFault>
     ensures { IfOk result (λ locality. IfSome locality (λ number. number ≤ 7)) }
 {
-    match word {
+    match word.text {
         "none" => Ok(None),
-        _ => Ok(Some(number_to(word, 7)?)),
+        _ => Ok(Some(word.number_to(7)?)),
     }
 }
 
-fn written(alloc: Global, command: &Command<'_>) -> Answer
+fn written(command: &Command<'_>, told: &mut String) -> Told
     requires { IsCommandWritable command.now }
 {
     let mut room = [0; 4096];
     let len = write_command(command, &mut room);
-    Ok(show(alloc, &room[..len])?)
+    show(told, &room[..len])
 }

@@ -1,44 +1,58 @@
 //! Rows that read and write frames.
-use crate::values::{Answer, RowFault, at_most, bytes, failing, number, show, size};
+use crate::ends::{sink, source};
+use crate::told::{Told, field, number, put};
+use crate::values::{RowFault, Word};
 use dpe_io::{MemSink, MemSource};
-use dpe_link::{WriteFault, read_frame, write_frame};
+use dpe_link::{FrameFault, WriteFault, read_frame, write_frame};
 use std::alloc::Global;
 
-/// What a row about frames answers.
-pub(crate) fn answer(alloc: Global, words: &[&str]) -> Answer {
-    match *words {
-        ["read", piece, listed, stream] => {
-            let (piece, listed) = (size(piece)?, failing(alloc, listed)?);
-            let source = MemSource::new(alloc, &bytes(alloc, stream)?, piece, &listed)?;
-            read(alloc, source)
-        }
-        ["write", room, piece, listed, payload] => {
-            let (piece, listed) = (size(piece)?, failing(alloc, listed)?);
-            let sink = MemSink::new(alloc, number(room)?, piece, &listed)?;
-            write(alloc, sink, payload)
-        }
+/// Tells a row about frames.
+pub(crate) fn tell(alloc: Global, call: &str, words: &[Word<'_>], told: &mut String) -> Told {
+    match call {
+        "read" => read_row(alloc, words, told),
+        "write" => write_row(alloc, words, told),
         _ => Err(RowFault::Unreadable),
     }
 }
 
-// The payload of the next frame or why there is none, and how many bytes are left.
-fn read(alloc: Global, mut source: MemSource) -> Answer {
-    let mut room = [0; 4096];
-    let answer = match read_frame(&mut source, &mut room) {
-        Ok(Some(len)) => format!(in alloc; "payload {}", show(alloc, &room[..len])?)?,
-        Ok(None) => String::from_str(alloc, "no frame")?,
-        Err(fault) => format!(in alloc; "{fault}")?,
+fn read_row(alloc: Global, words: &[Word<'_>], told: &mut String) -> Told {
+    let [piece, failing, stream] = words else {
+        return Err(RowFault::Unreadable);
     };
-    Ok(format!(in alloc; "{answer}, {} left", source.left().len())?)
+    let mut source = source(alloc, stream, piece, failing)?;
+    read(&mut source, told)
+}
+
+fn write_row(alloc: Global, words: &[Word<'_>], told: &mut String) -> Told {
+    let [room, piece, failing, payload] = words else {
+        return Err(RowFault::Unreadable);
+    };
+    let mut sink = sink(alloc, room, piece, failing)?;
+    write(&mut sink, payload, told)
+}
+
+// The payload of the next frame or why there is none, and how many bytes are left.
+fn read(source: &mut MemSource, told: &mut String) -> Told {
+    let mut room = [0; 4096];
+    match read_frame(source, &mut room) {
+        Ok(Some(len)) => field(told, "payload ", &room[..len])?,
+        Ok(None) => put(told, "no frame")?,
+        Err(fault) => put_fault(&fault, told)?,
+    }
+    number(told, ", ", source.left().len() as u64)?;
+    put(told, " left")
+}
+
+fn put_fault(fault: &FrameFault, told: &mut String) -> Told {
+    write!(told, "{fault}")?;
+    Ok(())
 }
 
 // Whether the frame of a payload was written, and what the sink got.
-fn write(alloc: Global, mut sink: MemSink, payload: &str) -> Answer {
-    let payload = at_most(alloc, payload, 4096)?;
-    let answer = match write_frame(&mut sink, &payload) {
-        Ok(()) => String::from_str(alloc, "written")?,
-        Err(WriteFault { written }) => format!(in alloc; "failed after {written}")?,
-    };
-    let got = show(alloc, sink.bytes())?;
-    Ok(format!(in alloc; "{answer}: {got}")?)
+fn write(sink: &mut MemSink, payload: &Word<'_>, told: &mut String) -> Told {
+    match write_frame(sink, payload.at_most(4096)?) {
+        Ok(()) => put(told, "written")?,
+        Err(WriteFault { written }) => number(told, "failed after ", written as u64)?,
+    }
+    field(told, ": ", sink.bytes())
 }

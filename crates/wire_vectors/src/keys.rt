@@ -1,147 +1,184 @@
 //! Rows of keyed functions, key streams, CDIs and signatures.
-use crate::values::{Answer, RowFault, array, at_most, bytes, number, show};
+use crate::told::{Told, field, number, show};
+use crate::values::{RowFault, Word};
 use dpe_chacha::apply;
 use dpe_hkdf::{expand, expand_labelled, extract};
 use dpe_hmac::{Hmac, hmac_of};
 use dpe_inputs::{
     Cdis, Count, Input, Unsalted, configuration, first, next, signature, signature_with,
 };
-use std::alloc::Global;
 
 /// The most bytes that HKDF gives of one key.
 const MAX_OUTPUT: usize = 16_320;
 
+/// The most bytes of a text that goes through a key stream.
+const MAX_TEXT: usize = 256;
+
 /// How many blocks a key stream has.
 const BLOCKS: u64 = 4_294_967_296;
 
-/// What a row about keys answers.
-pub(crate) fn answer(alloc: Global, words: &[&str]) -> Answer {
-    match words {
-        ["hmac", key, message] => {
-            let code = hmac_of(&bytes(alloc, key)?, &bytes(alloc, message)?);
-            Ok(show(alloc, &code)?)
-        }
-        ["hmac-pieces", key, pieces @ ..] => in_pieces(alloc, &bytes(alloc, key)?, pieces),
-        ["hkdf", salt, material, info, len] => {
-            let prk = match *salt {
-                "none" => extract(None, &bytes(alloc, material)?),
-                _ => extract(Some(&bytes(alloc, salt)?), &bytes(alloc, material)?),
-            };
-            expanded(alloc, &prk, &bytes(alloc, info)?, number(len)?)
-        }
-        ["hkdf-labelled", material, purpose, label, len] => {
-            let prk = Unsalted::new().extract(&bytes(alloc, material)?);
-            labelled(alloc, &prk, &bytes(alloc, purpose)?, label, number(len)?)
-        }
-        ["chacha20", key, nonce, counter, text] => {
-            let key = array(alloc, key)?;
-            let nonce = array(alloc, nonce)?;
-            ciphered(alloc, &key, &nonce, number(counter)?, bytes(alloc, text)?)
-        }
-        ["configuration", descriptor] => {
-            let input = configuration(&bytes(alloc, descriptor)?);
-            Ok(show(alloc, &input)?)
-        }
-        ["cdis", seed, layers @ ..] => cdis(alloc, &array(alloc, seed)?, layers),
-        ["sign", cdi, label, message] => signed(alloc, cdi, label, message, false),
-        ["sign-with", cdi, label, message] => signed(alloc, cdi, label, message, true),
+/// Tells a row about keys.
+pub(crate) fn tell(call: &str, words: &[Word<'_>], told: &mut String) -> Told {
+    match call {
+        "hmac" => hmac_row(words, told),
+        "hmac-pieces" => pieces_row(words, told),
+        "hkdf" => hkdf_row(words, told),
+        "hkdf-labelled" => labelled_row(words, told),
+        "chacha20" => chacha_row(words, told),
+        "configuration" => configuration_row(words, told),
+        "cdis" => cdis_row(words, told),
+        "sign" => sign_row(words, false, told),
+        "sign-with" => sign_row(words, true, told),
         _ => Err(RowFault::Unreadable),
     }
 }
 
-// The code of a message that comes in these pieces to a clone.
-fn in_pieces(alloc: Global, key: &[u8], pieces: &[&str]) -> Answer {
-    let keyed = Hmac::new(key);
+fn hmac_row(words: &[Word<'_>], told: &mut String) -> Told {
+    let [key, message] = words else {
+        return Err(RowFault::Unreadable);
+    };
+    show(told, &hmac_of(key.bytes()?, message.bytes()?))
+}
+
+fn configuration_row(words: &[Word<'_>], told: &mut String) -> Told {
+    let [descriptor] = words else {
+        return Err(RowFault::Unreadable);
+    };
+    show(told, &configuration(descriptor.bytes()?))
+}
+
+// The code of a message that comes in pieces to a clone.
+fn pieces_row(words: &[Word<'_>], told: &mut String) -> Told {
+    let Some((key, pieces)) = words.split_first() else {
+        return Err(RowFault::Unreadable);
+    };
+    let keyed = Hmac::new(key.bytes()?);
     let mut mac = keyed.clone()?;
     for piece in pieces {
-        mac.update(&bytes(alloc, piece)?);
+        mac.update(piece.bytes()?);
     }
-    Ok(show(alloc, &mac.finish())?)
+    show(told, &mac.finish())
 }
 
-fn expanded(alloc: Global, prk: &[u8; 64], info: &[u8], len: usize) -> Answer {
-    if len > MAX_OUTPUT {
+fn hkdf_row(words: &[Word<'_>], told: &mut String) -> Told {
+    let [salt, material, info, len] = words else {
         return Err(RowFault::Unreadable);
-    }
-    let mut output = vec![in alloc; 0; len]?;
-    expand(prk, info, &mut output);
-    Ok(show(alloc, &output)?)
+    };
+    let prk = match salt.text {
+        "none" => extract(None, material.bytes()?),
+        _ => extract(Some(salt.bytes()?), material.bytes()?),
+    };
+    let info = info.bytes()?;
+    let len = len.length_to(MAX_OUTPUT)?;
+    let mut output = [0; MAX_OUTPUT];
+    expand(&prk, info, &mut output[..len]);
+    show(told, &output[..len])
 }
 
-fn labelled(alloc: Global, prk: &[u8; 64], purpose: &[u8], label: &str, len: usize) -> Answer {
-    if len > MAX_OUTPUT {
+fn labelled_row(words: &[Word<'_>], told: &mut String) -> Told {
+    let [material, purpose, label, len] = words else {
         return Err(RowFault::Unreadable);
-    }
-    let label = at_most(alloc, label, 255)?;
-    let mut output = vec![in alloc; 0; len]?;
-    expand_labelled(prk, purpose, &label, &mut output);
-    Ok(show(alloc, &output)?)
+    };
+    let prk = Unsalted::new().extract(material.bytes()?);
+    let purpose = purpose.bytes()?;
+    let label = label.at_most(255)?;
+    let len = len.length_to(MAX_OUTPUT)?;
+    let mut output = [0; MAX_OUTPUT];
+    expand_labelled(&prk, purpose, label, &mut output[..len]);
+    show(told, &output[..len])
+}
+
+fn chacha_row(words: &[Word<'_>], told: &mut String) -> Told {
+    let [key, nonce, counter, text] = words else {
+        return Err(RowFault::Unreadable);
+    };
+    let key = key.array()?;
+    let nonce = nonce.array()?;
+    ciphered(
+        &key,
+        &nonce,
+        counter.number()?,
+        text.at_most(MAX_TEXT)?,
+        told,
+    )
 }
 
 fn ciphered(
-    alloc: Global,
     key: &[u8; 32],
     nonce: &[u8; 12],
     counter: u32,
-    mut text: Vec<u8>,
-) -> Answer {
+    text: &[u8],
+    told: &mut String,
+) -> Told {
+    let mut room = [0; MAX_TEXT];
+    let Some(room) = room.get_mut(..text.len()) else {
+        return Err(RowFault::Unreadable);
+    };
+    room.copy_from_slice(text);
     let blocks = text.len().div_ceil(64) as u64;
     if blocks > BLOCKS - u64::from(counter) {
         return Err(RowFault::Unreadable);
     }
-    apply(key, nonce, counter, &mut text);
-    Ok(show(alloc, &text)?)
+    apply(key, nonce, counter, room);
+    show(told, room)
 }
 
-// The CDIs of a path of layers, each `CODE/CONFIG/AUTHORITY/MODE/HIDDEN`, with `/` and a number where it comes more often.
-fn cdis(alloc: Global, seed: &[u8; 32], layers: &[&str]) -> Answer {
+// The CDIs of a path of layers, each `TIMES CODE CONFIG AUTHORITY MODE HIDDEN`.
+fn cdis_row(words: &[Word<'_>], told: &mut String) -> Told {
+    let Some((seed, layers)) = words.split_first() else {
+        return Err(RowFault::Unreadable);
+    };
     let mut meter = Count::new();
-    let mut cdis = first(seed);
-    for layer in layers {
-        let fields: Vec<&str> = layer.split('/').collect(alloc)?;
-        let (input, times) = match *fields {
-            [code, config, authority, mode, hidden] => {
-                (input(alloc, [code, config, authority, mode, hidden])?, 1)
-            }
-            [code, config, authority, mode, hidden, times] => {
-                let input = input(alloc, [code, config, authority, mode, hidden])?;
-                (input, number::<u32>(times)?)
-            }
-            _ => return Err(RowFault::Unreadable),
-        };
-        for _ in 0..times {
-            cdis = next(&cdis, &input, &mut meter);
-        }
+    let mut cdis = first(&seed.array()?);
+    for layer in layers.chunks(6) {
+        cdis = behind(&cdis, layer, &mut meter)?;
     }
-    let attest = show(alloc, &cdis.attest)?;
-    let seal = show(alloc, &cdis.seal)?;
-    Ok(format!(in alloc; "attest {attest} seal {seal} folds {}", meter.folds())?)
+    field(told, "attest ", &cdis.attest)?;
+    field(told, " seal ", &cdis.seal)?;
+    number(told, " folds ", meter.folds())
 }
 
-fn input(alloc: Global, fields: [&str; 5]) -> Result<Input, RowFault> {
-    let [code, config, authority, mode, hidden] = fields;
+// The CDIs behind a layer that comes so many times.
+fn behind(cdis: &Cdis, layer: &[Word<'_>], meter: &mut Count) -> Result<Cdis, RowFault> {
+    let [times, fields @ ..] = layer else {
+        return Err(RowFault::Unreadable);
+    };
+    let input = input(fields)?;
+    let mut cdis = *cdis;
+    for _ in 0..times.number::<u32>()? {
+        cdis = next(&cdis, &input, meter);
+    }
+    Ok(cdis)
+}
+
+fn input(fields: &[Word<'_>]) -> Result<Input, RowFault> {
+    let [code, config, authority, mode, hidden] = fields else {
+        return Err(RowFault::Unreadable);
+    };
     Ok(Input {
-        code: array(alloc, code)?,
-        config: array(alloc, config)?,
-        authority: array(alloc, authority)?,
-        mode: number(mode)?,
-        hidden: array(alloc, hidden)?,
+        code: code.array()?,
+        config: config.array()?,
+        authority: authority.array()?,
+        mode: mode.number()?,
+        hidden: hidden.array()?,
     })
 }
 
 // A signature, by the call that keeps the state of the absent salt or by the other.
-fn signed(alloc: Global, cdi: &str, label: &str, message: &str, with: bool) -> Answer {
-    let attest = array(alloc, cdi)?;
+fn sign_row(words: &[Word<'_>], with: bool, told: &mut String) -> Told {
+    let [attest, label, message] = words else {
+        return Err(RowFault::Unreadable);
+    };
     let cdis = Cdis {
-        attest,
+        attest: attest.array()?,
         seal: [0xff; 32],
     };
-    let label = at_most(alloc, label, 64)?;
-    let message = bytes(alloc, message)?;
+    let label = label.at_most(64)?;
+    let message = message.bytes()?;
     let signature = if with {
-        signature_with(&Unsalted::new(), &cdis, &label, &message)
+        signature_with(&Unsalted::new(), &cdis, label, message)
     } else {
-        signature(&cdis, &label, &message)
+        signature(&cdis, label, message)
     };
-    Ok(show(alloc, &signature)?)
+    show(told, &signature)
 }

@@ -4,6 +4,7 @@
 
 mod boxes;
 mod commands;
+mod ends;
 mod frames;
 mod houses;
 mod items;
@@ -12,26 +13,38 @@ mod messages;
 mod outside;
 mod replies;
 mod texts;
+mod told;
 mod values;
 
 use std::alloc::Global;
 use std::io;
-use values::{Answer, RowFault};
+use told::Told;
+use values::{RowFault, Word, words_of};
 
-// What the call of a row answers. Its first word says what it is about.
-fn answer(alloc: Global, row: &str) -> Answer {
-    let words: Vec<&str> = row.split_whitespace().collect(alloc)?;
-    match words.as_slice() {
-        ["cbor", others @ ..] => items::answer(alloc, others),
-        ["message", others @ ..] => messages::answer(alloc, others),
-        ["key", others @ ..] => keys::answer(alloc, others),
-        ["box", others @ ..] => boxes::answer(alloc, others),
-        ["frame", others @ ..] => frames::answer(alloc, others),
-        ["text", others @ ..] => texts::answer(alloc, others),
-        ["outside", others @ ..] => outside::answer(alloc, others),
-        ["opened", others @ ..] => houses::answer(alloc, others),
+// Tells what the call of a row answers. Its first word says what it is about, and its second names the call.
+fn tell(alloc: Global, words: &[Word<'_>], told: &mut String) -> Told {
+    let [about, call, words @ ..] = words else {
+        return Err(RowFault::Unreadable);
+    };
+    match about.text {
+        "cbor" => items::tell(alloc, call.text, words, told),
+        "message" => messages::tell(call.text, words, told),
+        "key" => keys::tell(call.text, words, told),
+        "box" => boxes::tell(call.text, words, told),
+        "frame" => frames::tell(alloc, call.text, words, told),
+        "text" => texts::tell(alloc, call.text, words, told),
+        "outside" => outside::tell(alloc, call.text, words, told),
+        "opened" => houses::tell(alloc, call.text, words, told),
         _ => Err(RowFault::Unreadable),
     }
+}
+
+// What the call of a row answers.
+fn answer(alloc: Global, row: &str) -> Result<String, RowFault> {
+    let words = words_of(alloc, row)?;
+    let mut told = String::new(alloc);
+    tell(alloc, &words, &mut told)?;
+    Ok(told)
 }
 
 fn main(rt: HostRuntime) -> io::Result<()> {

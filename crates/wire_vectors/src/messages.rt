@@ -1,26 +1,29 @@
 //! Rows that read and write payloads.
-use crate::values::{Answer, RowFault, bytes};
+use crate::told::{Told, number, put};
+use crate::values::{RowFault, Word};
 use crate::{commands, replies};
 use dpe_messages::{command_number, reply_code};
-use std::alloc::Global;
 
-/// What a row about payloads answers.
-pub(crate) fn answer(alloc: Global, words: &[&str]) -> Answer {
-    match words {
-        ["command", payload] => commands::read(alloc, &bytes(alloc, payload)?),
-        ["reply", asked, payload] => replies::read(alloc, asked, &bytes(alloc, payload)?),
-        ["answers", payload] => replies::asked(alloc, &bytes(alloc, payload)?),
-        ["number", payload] => number_or_none(alloc, command_number(&bytes(alloc, payload)?)),
-        ["code", payload] => number_or_none(alloc, reply_code(&bytes(alloc, payload)?)),
-        ["ask", command @ ..] => commands::write(alloc, command),
-        ["answer", reply @ ..] => replies::write(alloc, reply),
+/// Tells a row about payloads.
+pub(crate) fn tell(call: &str, words: &[Word<'_>], told: &mut String) -> Told {
+    let Some((first, others)) = words.split_first() else {
+        return Err(RowFault::Unreadable);
+    };
+    match call {
+        "command" => commands::read(first.bytes()?, told),
+        "reply" => replies::read(first.text, others, told),
+        "answers" => replies::asked(first.bytes()?, told),
+        "number" => number_or_none(command_number(first.bytes()?), told),
+        "code" => number_or_none(reply_code(first.bytes()?), told),
+        "ask" => commands::write(first.text, others, told),
+        "answer" => replies::write(first.text, others, told),
         _ => Err(RowFault::Unreadable),
     }
 }
 
-fn number_or_none(alloc: Global, number: Option<u64>) -> Answer {
-    match number {
-        Some(number) => Ok(format!(in alloc; "{number}")?),
-        None => Ok(String::from_str(alloc, "none")?),
+fn number_or_none(answer: Option<u64>, told: &mut String) -> Told {
+    match answer {
+        Some(value) => number(told, "", value),
+        None => put(told, "none"),
     }
 }

@@ -2,77 +2,121 @@
 //! the readers and writers of std are here as well.
 ghost use Rattle.std.specs.Prelude.{◌≤◌, length};
 
-use crate::values::{Answer, RowFault, array, bytes, failing, number, show, size};
+use crate::ends::{sink, source};
+use crate::told::{Told, field, number, put, separate, show};
+use crate::values::{RowFault, Word};
 use dpe_io::{
-    Entropy, Failed, MAX_PACKET, MemEntropy, MemSink, MemSource, Packet, ReadSource, Sink, Source,
-    SureEntropy, SureSource, WriteSink,
+    Entropy, Failed, MAX_PACKET, MemEntropy, Packet, ReadSource, Sink, Source, SureEntropy,
+    SureSource, WriteSink,
 };
-use std::alloc::{AllocError, Global};
+use std::alloc::Global;
 use std::io::{self, Read, Write};
 
-/// What a row about the outside answers.
-pub(crate) fn answer(alloc: Global, words: &[&str]) -> Answer {
-    match words {
-        ["source", piece, listed, given, rooms @ ..] => {
-            let (piece, listed) = (size(piece)?, failing(alloc, listed)?);
-            let mut source = MemSource::new(alloc, &bytes(alloc, given)?, piece, &listed)?;
-            let answers = read_all(alloc, &mut source, rooms)?;
-            let left = show(alloc, source.left())?;
-            Ok(format!(in alloc; "{answers}; left {left}, faults {}", source.faults())?)
-        }
-        ["sure-source", piece, given, rooms @ ..] => {
-            let mut source = SureSource::new(alloc, &bytes(alloc, given)?, size(piece)?)?;
-            let answers = read_all(alloc, &mut source, rooms)?;
-            let left = show(alloc, source.left())?;
-            Ok(format!(in alloc; "{answers}; left {left}")?)
-        }
-        ["sink", room, piece, listed, calls @ ..] => {
-            let (piece, listed) = (size(piece)?, failing(alloc, listed)?);
-            let mut sink = MemSink::new(alloc, number(room)?, piece, &listed)?;
-            let answers = write_all(alloc, &mut sink, calls)?;
-            let got = show(alloc, sink.bytes())?;
-            Ok(format!(in alloc; "{answers}; got {got}, faults {}", sink.faults())?)
-        }
-        ["entropy", listed, draws, given @ ..] => {
-            let listed = failing(alloc, listed)?;
-            let mut entropy = MemEntropy::new(alloc, &random_words(alloc, given)?, &listed)?;
-            let answers = draw_all(alloc, &mut entropy, number(draws)?)?;
-            Ok(format!(in alloc; "{answers}; faults {}", entropy.faults())?)
-        }
-        ["sure-entropy", draws, given @ ..] => {
-            let mut entropy = SureEntropy::new(alloc, &random_words(alloc, given)?)?;
-            draw_all(alloc, &mut entropy, number(draws)?)
-        }
-        ["packet", calls @ ..] => packet(alloc, calls),
-        _ => adapters(alloc, words),
+/// The longest room for a read.
+const MOST_ROOM: usize = 16;
+
+/// Tells a row about the outside.
+pub(crate) fn tell(alloc: Global, call: &str, words: &[Word<'_>], told: &mut String) -> Told {
+    match call {
+        "source" => source_row(alloc, words, told),
+        "sure-source" => sure_source_row(alloc, words, told),
+        "sink" => sink_row(alloc, words, told),
+        "entropy" => entropy_row(alloc, words, told),
+        "sure-entropy" => sure_entropy_row(alloc, words, told),
+        "packet" => packet_row(words, told),
+        "reader" => reader_row(words, told),
+        "interrupted-reader" => interrupted_row(words, told),
+        "writer" => writer_row(alloc, words, told),
+        "stuck-writer" => stuck_row(words, told),
+        _ => Err(RowFault::Unreadable),
     }
 }
 
-fn adapters(alloc: Global, words: &[&str]) -> Answer {
-    match words {
-        ["reader", given, rooms @ ..] => {
-            let given = bytes(alloc, given)?;
-            let mut source = ReadSource::new(given.as_slice());
-            let answers = read_all(alloc, &mut source, rooms)?;
-            Ok(format!(in alloc; "{answers}; faults {}", source.faults())?)
-        }
-        ["interrupted-reader", rooms @ ..] => {
-            let mut source = ReadSource::new(Interrupted);
-            let answers = read_all(alloc, &mut source, rooms)?;
-            Ok(format!(in alloc; "{answers}; faults {}", source.faults())?)
-        }
-        ["writer", calls @ ..] => {
-            let mut sink = WriteSink::new(Vec::new(alloc));
-            let answers = write_all(alloc, &mut sink, calls)?;
-            Ok(format!(in alloc; "{answers}; faults {}", sink.faults())?)
-        }
-        ["stuck-writer", calls @ ..] => {
-            let mut sink = WriteSink::new(Stuck);
-            let answers = write_all(alloc, &mut sink, calls)?;
-            Ok(format!(in alloc; "{answers}; faults {}", sink.faults())?)
-        }
-        _ => Err(RowFault::Unreadable),
+fn source_row(alloc: Global, words: &[Word<'_>], told: &mut String) -> Told {
+    let [piece, failing, given, rooms @ ..] = words else {
+        return Err(RowFault::Unreadable);
+    };
+    let mut source = source(alloc, given, piece, failing)?;
+    read_all(&mut source, rooms, told)?;
+    field(told, "; left ", source.left())?;
+    number(told, ", faults ", source.faults())
+}
+
+fn sure_source_row(alloc: Global, words: &[Word<'_>], told: &mut String) -> Told {
+    let [piece, given, rooms @ ..] = words else {
+        return Err(RowFault::Unreadable);
+    };
+    let mut source = SureSource::new(alloc, given.bytes()?, piece.size()?)?;
+    read_all(&mut source, rooms, told)?;
+    field(told, "; left ", source.left())
+}
+
+fn sink_row(alloc: Global, words: &[Word<'_>], told: &mut String) -> Told {
+    let [room, piece, failing, calls @ ..] = words else {
+        return Err(RowFault::Unreadable);
+    };
+    let mut sink = sink(alloc, room, piece, failing)?;
+    write_all(&mut sink, calls, told)?;
+    field(told, "; got ", sink.bytes())?;
+    number(told, ", faults ", sink.faults())
+}
+
+fn entropy_row(alloc: Global, words: &[Word<'_>], told: &mut String) -> Told {
+    let [failing, draws, given @ ..] = words else {
+        return Err(RowFault::Unreadable);
+    };
+    let mut entropy = entropy(alloc, given, failing)?;
+    draw_all(&mut entropy, draws.number()?, told)?;
+    number(told, "; faults ", entropy.faults())
+}
+
+fn entropy(alloc: Global, given: &[Word<'_>], failing: &Word<'_>) -> Result<MemEntropy, RowFault> {
+    let given = random_words(alloc, given)?;
+    let failing = failing.failing(alloc)?;
+    Ok(MemEntropy::new(alloc, &given, &failing)?)
+}
+
+fn sure_entropy_row(alloc: Global, words: &[Word<'_>], told: &mut String) -> Told {
+    let [draws, given @ ..] = words else {
+        return Err(RowFault::Unreadable);
+    };
+    let mut entropy = SureEntropy::new(alloc, &random_words(alloc, given)?)?;
+    draw_all(&mut entropy, draws.number()?, told)
+}
+
+fn random_words(alloc: Global, given: &[Word<'_>]) -> Result<Vec<[u8; 32]>, RowFault> {
+    let mut words = Vec::new(alloc);
+    for word in given {
+        words.push(word.array()?)?;
     }
+    Ok(words)
+}
+
+fn reader_row(words: &[Word<'_>], told: &mut String) -> Told {
+    let Some((given, rooms)) = words.split_first() else {
+        return Err(RowFault::Unreadable);
+    };
+    let mut source = ReadSource::new(given.bytes()?);
+    read_all(&mut source, rooms, told)?;
+    number(told, "; faults ", source.faults())
+}
+
+fn interrupted_row(rooms: &[Word<'_>], told: &mut String) -> Told {
+    let mut source = ReadSource::new(Interrupted);
+    read_all(&mut source, rooms, told)?;
+    number(told, "; faults ", source.faults())
+}
+
+fn writer_row(alloc: Global, calls: &[Word<'_>], told: &mut String) -> Told {
+    let mut sink = WriteSink::new(Vec::new(alloc));
+    write_all(&mut sink, calls, told)?;
+    number(told, "; faults ", sink.faults())
+}
+
+fn stuck_row(calls: &[Word<'_>], told: &mut String) -> Told {
+    let mut sink = WriteSink::new(Stuck);
+    write_all(&mut sink, calls, told)?;
+    number(told, "; faults ", sink.faults())
 }
 
 // A writer that takes nothing, and whose flush is interrupted.
@@ -99,102 +143,90 @@ impl Read for Interrupted {
     }
 }
 
-/// Puts an answer behind those before it.
-pub(crate) fn put(answers: &mut String, answer: &str) -> Result<(), AllocError> {
-    if !answers.is_empty() {
-        answers.push_str(", ")?;
+// What each read into a room of one of these lengths gives, through the bound alone.
+fn read_all<S: Source>(source: &mut S, rooms: &[Word<'_>], told: &mut String) -> Told {
+    for room in rooms {
+        separate(told)?;
+        read_once(source, room.length_to(MOST_ROOM)?, told)?;
     }
-    answers.push_str(answer)
+    Ok(())
 }
 
-// What each read into a room of one of these lengths gives, through the bound alone.
-fn read_all<S: Source>(alloc: Global, source: &mut S, rooms: &[&str]) -> Answer {
-    let mut answers = String::new(alloc);
-    for len in rooms {
-        let mut room = vec![in alloc; 0; number(len)?]?;
-        match source.read(&mut room) {
-            Ok(count) => put(&mut answers, show(alloc, &room[..count])?.as_str())?,
-            Err(Failed) => put(&mut answers, "failed")?,
-        }
+fn read_once<S: Source>(source: &mut S, len: usize, told: &mut String) -> Told {
+    let mut room = [0; MOST_ROOM];
+    let Some(room) = room.get_mut(..len) else {
+        return Err(RowFault::Unreadable);
+    };
+    match source.read(room) {
+        Ok(count) => show(told, &room[..count]),
+        Err(Failed) => put(told, "failed"),
     }
-    Ok(answers)
 }
 
 // What each write and `flush` answers, through the bound alone.
-fn write_all<K: Sink>(alloc: Global, sink: &mut K, calls: &[&str]) -> Answer {
-    let mut answers = String::new(alloc);
+fn write_all<K: Sink>(sink: &mut K, calls: &[Word<'_>], told: &mut String) -> Told {
     for call in calls {
-        let answer = match *call {
-            "flush" => sink.flush().map(|()| 0),
-            _ => sink.write(&bytes(alloc, call)?),
-        };
-        match answer {
-            Ok(count) => put(&mut answers, format!(in alloc; "{count}")?.as_str())?,
-            Err(Failed) => put(&mut answers, "failed")?,
-        }
+        separate(told)?;
+        write_once(sink, call, told)?;
     }
-    Ok(answers)
+    Ok(())
 }
 
-fn random_words(alloc: Global, given: &[&str]) -> Result<Vec<[u8; 32]>, RowFault> {
-    let mut words = Vec::new(alloc);
-    for word in given {
-        words.push(array(alloc, word)?)?;
+fn write_once<K: Sink>(sink: &mut K, call: &Word<'_>, told: &mut String) -> Told {
+    let answer = match call.text {
+        "flush" => sink.flush().map(|()| 0),
+        _ => sink.write(call.bytes()?),
+    };
+    match answer {
+        Ok(count) => number(told, "", count as u64),
+        Err(Failed) => put(told, "failed"),
     }
-    Ok(words)
 }
 
 // What so many draws give, through the bound alone.
-fn draw_all<E: Entropy>(alloc: Global, entropy: &mut E, draws: u32) -> Answer {
-    let mut answers = String::new(alloc);
+fn draw_all<E: Entropy>(entropy: &mut E, draws: u32, told: &mut String) -> Told {
     for _ in 0..draws {
-        let mut room = [9; 32];
-        match entropy.draw(&mut room) {
-            Ok(()) => put(&mut answers, show(alloc, &room)?.as_str())?,
-            Err(Failed) => put(&mut answers, "failed")?,
-        }
+        separate(told)?;
+        draw_once(entropy, told)?;
     }
-    Ok(answers)
+    Ok(())
+}
+
+fn draw_once<E: Entropy>(entropy: &mut E, told: &mut String) -> Told {
+    let mut room = [9; 32];
+    match entropy.draw(&mut room) {
+        Ok(()) => show(told, &room),
+        Err(Failed) => put(told, "failed"),
+    }
+}
+
+// What a packet holds at first and after each call.
+fn packet_row(calls: &[Word<'_>], told: &mut String) -> Told {
+    let mut packet = Packet::new();
+    show(told, packet.bytes())?;
+    for call in calls {
+        change(&mut packet, call)?;
+        field(told, ", ", packet.bytes())?;
+    }
+    Ok(())
+}
+
+// `set=` and bytes, `whole=` and what is written at its front, or `truncate=` and a number.
+fn change(packet: &mut Packet, call: &Word<'_>) -> Result<(), RowFault> {
+    match call.name {
+        "set" => packet.set(call.at_most(MAX_PACKET)?),
+        "whole" => write_front(packet.whole(), call.at_most(MAX_PACKET)?),
+        "truncate" => {
+            let len = call.length_to(packet.bytes().len())?;
+            packet.truncate(len);
+        }
+        _ => return Err(RowFault::Unreadable),
+    }
+    Ok(())
 }
 
 fn write_front(room: &mut [u8; MAX_PACKET], front: &[u8])
     requires { length front.now ≤ MAX_PACKET }
 {
     room[..front.len()].copy_from_slice(front);
-}
-
-// What a packet holds after each call: `set=` and bytes, `whole=` and what is written at its front, `truncate=` and a
-// number.
-fn packet(alloc: Global, calls: &[&str]) -> Answer {
-    let mut packet = Packet::new();
-    let mut answers = show(alloc, packet.bytes())?;
-    for call in calls {
-        let (name, value) = call.split_once('=').ok_or(RowFault::Unreadable)?;
-        match name {
-            "set" => {
-                let from = bytes(alloc, value)?;
-                if from.len() > MAX_PACKET {
-                    return Err(RowFault::Unreadable);
-                }
-                packet.set(&from);
-            }
-            "whole" => {
-                let front = bytes(alloc, value)?;
-                if front.len() > MAX_PACKET {
-                    return Err(RowFault::Unreadable);
-                }
-                write_front(packet.whole(), &front);
-            }
-            "truncate" => {
-                let len = number::<usize>(value)?;
-                if len > packet.bytes().len() {
-                    return Err(RowFault::Unreadable);
-                }
-                packet.truncate(len);
-            }
-            _ => return Err(RowFault::Unreadable),
-        }
-        put(&mut answers, show(alloc, packet.bytes())?.as_str())?;
-    }
-    Ok(answers)
 }

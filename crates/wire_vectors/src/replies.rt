@@ -1,9 +1,9 @@
 //! Rows that read and write replies.
 ghost use Rattle.dpe_messages.specs.Replies.{IsWritable};
 
-use crate::values::{Answer, RowFault, array, array_or_none, at_most, number, show};
+use crate::told::{Told, field, field_or_none, number, put, show};
+use crate::values::{RowFault, Word};
 use dpe_messages::{Asked, Reply, read_reply, write_reply};
-use std::alloc::{AllocError, Global};
 
 /// The commands by the names that the rows have for them.
 static COMMANDS: [(&str, Asked); 8] = [
@@ -17,100 +17,123 @@ static COMMANDS: [(&str, Asked); 8] = [
     ("DestroyContext", Asked::Destroy),
 ];
 
-/// The reply that a payload is to the command of this name.
-pub(crate) fn read(alloc: Global, name: &str, payload: &[u8]) -> Answer {
+/// Tells the reply that a payload is to the command of this name.
+pub(crate) fn read(name: &str, words: &[Word<'_>], told: &mut String) -> Told {
+    let [payload] = words else {
+        return Err(RowFault::Unreadable);
+    };
     for (known, asked) in &COMMANDS {
         if *known == name {
-            return match read_reply(asked, payload) {
-                Ok(reply) => describe(alloc, &reply),
-                Err(_) => Ok(String::from_str(alloc, "no reply")?),
-            };
+            return read_as(asked, payload.bytes()?, told);
         }
     }
     Err(RowFault::Unreadable)
 }
 
-/// The commands to which a payload is a reply.
-pub(crate) fn asked(alloc: Global, payload: &[u8]) -> Answer {
-    let mut names = String::new(alloc);
+fn read_as(asked: &Asked, payload: &[u8], told: &mut String) -> Told {
+    match read_reply(asked, payload) {
+        Ok(reply) => describe(&reply, told),
+        Err(_) => put(told, "no reply"),
+    }
+}
+
+/// Tells the commands to which a payload is a reply.
+pub(crate) fn asked(payload: &[u8], told: &mut String) -> Told {
     for (name, asked) in &COMMANDS {
         if read_reply(asked, payload).is_ok() {
-            if !names.is_empty() {
-                names.push_str(" ")?;
-            }
-            names.push_str(*name)?;
+            put_name(name, told)?;
         }
     }
-    if names.is_empty() {
-        names.push_str("no command")?;
+    if told.is_empty() {
+        return put(told, "no command");
     }
-    Ok(names)
+    Ok(())
 }
 
-fn describe(alloc: Global, reply: &Reply<'_>) -> Answer {
+fn put_name(name: &str, told: &mut String) -> Told {
+    if !told.is_empty() {
+        put(told, " ")?;
+    }
+    put(told, name)
+}
+
+fn describe(reply: &Reply<'_>, told: &mut String) -> Told {
     match reply {
-        Reply::Refused(code) => Ok(format!(in alloc; "refused {code}")?),
-        Reply::Profile => Ok(String::from_str(alloc, "profile")?),
-        Reply::Handle(handle) => {
-            let handle = show(alloc, handle)?;
-            Ok(format!(in alloc; "handle {handle}")?)
-        }
+        Reply::Refused(code) => number(told, "refused ", u64::from(*code)),
+        Reply::Profile => put(told, "profile"),
+        Reply::Handle(handle) => field(told, "handle ", handle),
         Reply::Derived { child, parent } => {
-            let child = show(alloc, child)?;
-            let parent = show_or_none(alloc, parent)?;
-            Ok(format!(in alloc; "derived {child} {parent}")?)
+            field(told, "derived ", child)?;
+            handle_or_none(" ", parent, told)
         }
         Reply::Made { handle, bytes } => {
-            let handle = show_or_none(alloc, handle)?;
-            let bytes = show(alloc, *bytes)?;
-            Ok(format!(in alloc; "made {handle} {bytes}")?)
+            handle_or_none("made ", handle, told)?;
+            field(told, " ", *bytes)
         }
-        Reply::Done => Ok(String::from_str(alloc, "done")?),
+        Reply::Done => put(told, "done"),
     }
 }
 
-fn show_or_none(alloc: Global, handle: &Option<[u8; 16]>) -> Result<String, AllocError> {
+fn handle_or_none(name: &str, handle: &Option<[u8; 16]>, told: &mut String) -> Told {
     match handle {
-        Some(handle) => show(alloc, handle),
-        None => String::from_str(alloc, "none"),
+        Some(handle) => field_or_none(told, name, Some(handle)),
+        None => field_or_none(told, name, None),
     }
 }
 
-/// The payload of a reply.
-pub(crate) fn write(alloc: Global, words: &[&str]) -> Answer {
-    match *words {
-        ["refused", code] => {
-            let code = number::<u8>(code)?;
-            if !matches!(code, 2 | 3 | 5 | 16..=27) {
-                return Err(RowFault::Unreadable);
-            }
-            written(alloc, &Reply::Refused(code))
-        }
-        ["profile"] => written(alloc, &Reply::Profile),
-        ["handle", handle] => written(alloc, &Reply::Handle(array(alloc, handle)?)),
-        ["derived", child, parent] => {
-            let child = array(alloc, child)?;
-            let parent = array_or_none(alloc, parent)?;
-            written(alloc, &Reply::Derived { child, parent })
-        }
-        ["made", handle, bytes] => {
-            let handle = array_or_none(alloc, handle)?;
-            let bytes = at_most(alloc, bytes, 2133)?;
-            let made = Reply::Made {
-                handle,
-                bytes: &bytes,
-            };
-            written(alloc, &made)
-        }
-        ["done"] => written(alloc, &Reply::Done),
+/// Tells the payload of a reply.
+pub(crate) fn write(name: &str, words: &[Word<'_>], told: &mut String) -> Told {
+    match name {
+        "refused" => write_refused(words, told),
+        "profile" => written(&Reply::Profile, told),
+        "handle" => write_handle(words, told),
+        "derived" => write_derived(words, told),
+        "made" => write_made(words, told),
+        "done" => written(&Reply::Done, told),
         _ => Err(RowFault::Unreadable),
     }
 }
 
-fn written(alloc: Global, reply: &Reply<'_>) -> Answer
+fn write_refused(words: &[Word<'_>], told: &mut String) -> Told {
+    let [code] = words else {
+        return Err(RowFault::Unreadable);
+    };
+    let code = code.number::<u8>()?;
+    if !matches!(code, 2 | 3 | 5 | 16..=27) {
+        return Err(RowFault::Unreadable);
+    }
+    written(&Reply::Refused(code), told)
+}
+
+fn write_handle(words: &[Word<'_>], told: &mut String) -> Told {
+    let [handle] = words else {
+        return Err(RowFault::Unreadable);
+    };
+    written(&Reply::Handle(handle.array()?), told)
+}
+
+fn write_derived(words: &[Word<'_>], told: &mut String) -> Told {
+    let [child, parent] = words else {
+        return Err(RowFault::Unreadable);
+    };
+    let child = child.array()?;
+    let parent = parent.array_or_none()?;
+    written(&Reply::Derived { child, parent }, told)
+}
+
+fn write_made(words: &[Word<'_>], told: &mut String) -> Told {
+    let [handle, bytes] = words else {
+        return Err(RowFault::Unreadable);
+    };
+    let handle = handle.array_or_none()?;
+    let bytes = bytes.at_most(2133)?;
+    written(&Reply::Made { handle, bytes }, told)
+}
+
+fn written(reply: &Reply<'_>, told: &mut String) -> Told
     requires { IsWritable reply.now }
 {
     let mut room = [0; 4096];
     let len = write_reply(reply, &mut room);
-    Ok(show(alloc, &room[..len])?)
+    show(told, &room[..len])
 }

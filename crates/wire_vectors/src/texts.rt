@@ -1,66 +1,71 @@
 //! Rows of numbers in words, and of lines put together and written.
-use crate::values::{Answer, RowFault, bytes, failing, number, show, size};
+use crate::ends::sink;
+use crate::told::{Told, field, number, put, show};
+use crate::values::{RowFault, Word};
 use dpe_io::{Failed, MemSink};
 use dpe_text::{MAX_TEXT, Text, parse_number, print, send};
 use std::alloc::Global;
 use std::str;
 
-/// What a row about texts answers.
-pub(crate) fn answer(alloc: Global, words: &[&str]) -> Answer {
-    match words {
-        ["number", word] => match parse_number(word) {
-            Some(number) => Ok(format!(in alloc; "{number}")?),
-            None => Ok(String::from_str(alloc, "no number")?),
-        },
-        ["line", pieces @ ..] => line(alloc, pieces),
-        [call, room, piece, listed, text] => {
-            let (piece, listed) = (size(piece)?, failing(alloc, listed)?);
-            let sink = MemSink::new(alloc, number(room)?, piece, &listed)?;
-            write(alloc, call, sink, &bytes(alloc, text)?)
-        }
-        _ => Err(RowFault::Unreadable),
+/// Tells a row about texts.
+pub(crate) fn tell(alloc: Global, call: &str, words: &[Word<'_>], told: &mut String) -> Told {
+    match call {
+        "number" => number_row(words, told),
+        "line" => line(words, told),
+        _ => write_row(alloc, call, words, told),
     }
 }
 
-// The line of these pieces: `number=` and a number, `hex=` and bytes, or bytes as they are.
-fn line(alloc: Global, pieces: &[&str]) -> Answer {
+fn number_row(words: &[Word<'_>], told: &mut String) -> Told {
+    let [word] = words else {
+        return Err(RowFault::Unreadable);
+    };
+    match parse_number(word.text) {
+        Some(value) => number(told, "", value),
+        None => put(told, "no number"),
+    }
+}
+
+// The line of these pieces.
+fn line(pieces: &[Word<'_>], told: &mut String) -> Told {
     let mut line = Text::new();
     for piece in pieces {
-        let room = MAX_TEXT - line.bytes().len();
-        match piece.split_once('=') {
-            Some(("number", word)) if room >= 20 => line.push_number(number(word)?),
-            Some(("hex", word)) => {
-                let bytes = bytes(alloc, word)?;
-                if bytes.len() > room / 2 {
-                    return Err(RowFault::Unreadable);
-                }
-                line.push_hex(&bytes);
-            }
-            _ => {
-                let bytes = bytes(alloc, piece)?;
-                if bytes.len() > room {
-                    return Err(RowFault::Unreadable);
-                }
-                line.push(&bytes);
-            }
-        }
+        push_piece(&mut line, piece)?;
     }
     match str::from_utf8(line.bytes()) {
-        Ok(text) => Ok(String::from_str(alloc, text)?),
-        Err(_) => Ok(show(alloc, line.bytes())?),
+        Ok(text) => put(told, text),
+        Err(_) => show(told, line.bytes()),
     }
+}
+
+// Appends a piece: `number=` and a number, `hex=` and bytes, or bytes as they are.
+fn push_piece(line: &mut Text, piece: &Word<'_>) -> Result<(), RowFault> {
+    let room = MAX_TEXT - line.bytes().len();
+    match piece.name {
+        "number" if room >= 20 => line.push_number(piece.number()?),
+        "hex" => line.push_hex(piece.at_most(room / 2)?),
+        _ => line.push(piece.at_most(room)?),
+    }
+    Ok(())
+}
+
+fn write_row(alloc: Global, call: &str, words: &[Word<'_>], told: &mut String) -> Told {
+    let [room, piece, failing, text] = words else {
+        return Err(RowFault::Unreadable);
+    };
+    let mut sink = sink(alloc, room, piece, failing)?;
+    write(call, &mut sink, text.bytes()?, told)
 }
 
 // Whether a text was written, and what the sink got.
-fn write(alloc: Global, call: &str, mut sink: MemSink, text: &[u8]) -> Answer {
+fn write(call: &str, sink: &mut MemSink, text: &[u8], told: &mut String) -> Told {
     let answer = match call {
-        "print" => print(&mut sink, text),
-        "send" => send(&mut sink, text),
+        "print" => print(sink, text),
+        "send" => send(sink, text),
         _ => return Err(RowFault::Unreadable),
     };
-    let got = show(alloc, sink.bytes())?;
     match answer {
-        Ok(()) => Ok(format!(in alloc; "written: {got}")?),
-        Err(Failed) => Ok(format!(in alloc; "failed: {got}")?),
+        Ok(()) => field(told, "written: ", sink.bytes()),
+        Err(Failed) => field(told, "failed: ", sink.bytes()),
     }
 }
