@@ -153,11 +153,15 @@ fn write_sign(words: &[Word<'_>], told: &mut String) -> Told {
     let [handle, label, retain, message] = words else {
         return Err(RowFault::Unreadable);
     };
+    let handle = handle.array()?;
+    let label = label.at_most(64)?;
+    let retain = retain.truth()?;
+    let message = message.at_most(2048)?;
     let sign = Sign {
-        handle: &handle.array()?,
-        label: label.at_most(64)?,
-        retain: retain.truth()?,
-        message: message.at_most(2048)?,
+        handle: &handle,
+        label,
+        retain,
+        message,
     };
     written(&Command::Sign(sign), told)
 }
@@ -166,13 +170,19 @@ fn write_seal(words: &[Word<'_>], told: &mut String) -> Told {
     let [handle, label, retain, localities, modes, plain] = words else {
         return Err(RowFault::Unreadable);
     };
+    let handle = handle.array()?;
+    let label = label.at_most(64)?;
+    let retain = retain.truth()?;
+    let localities = localities.number_to(255)?;
+    let modes = modes.number_to(15)?;
+    let plain = plain.at_most(2048)?;
     let seal = Seal {
-        handle: &handle.array()?,
-        label: label.at_most(64)?,
-        retain: retain.truth()?,
-        localities: localities.number_to(255)?,
-        modes: modes.number_to(15)?,
-        plain: plain.at_most(2048)?,
+        handle: &handle,
+        label,
+        retain,
+        localities,
+        modes,
+        plain,
     };
     written(&Command::Seal(seal), told)
 }
@@ -181,11 +191,15 @@ fn write_unseal(words: &[Word<'_>], told: &mut String) -> Told {
     let [handle, label, retain, sealed] = words else {
         return Err(RowFault::Unreadable);
     };
+    let handle = handle.array()?;
+    let label = label.at_most(64)?;
+    let retain = retain.truth()?;
+    let sealed = sealed.at_most(3900)?;
     let unseal = Unseal {
-        handle: &handle.array()?,
-        label: label.at_most(64)?,
-        retain: retain.truth()?,
-        sealed: sealed.at_most(3900)?,
+        handle: &handle,
+        label,
+        retain,
+        sealed,
     };
     written(&Command::Unseal(unseal), told)
 }

@@ -7,6 +7,7 @@ use dpe_hmac::{Hmac, hmac_of};
 use dpe_inputs::{
     Cdis, Count, Input, Unsalted, configuration, first, next, signature, signature_with,
 };
+use std::alloc::Global;
 
 /// The most bytes that HKDF gives of one key.
 const MAX_OUTPUT: usize = 16_320;
@@ -18,12 +19,12 @@ const MAX_TEXT: usize = 256;
 const BLOCKS: u64 = 4_294_967_296;
 
 /// Tells a row about keys.
-pub(crate) fn tell(call: &str, words: &[Word<'_>], told: &mut String) -> Told {
+pub(crate) fn tell(alloc: Global, call: &str, words: &[Word<'_>], told: &mut String) -> Told {
     match call {
         "hmac" => hmac_row(words, told),
         "hmac-pieces" => pieces_row(words, told),
-        "hkdf" => hkdf_row(words, told),
-        "hkdf-labelled" => labelled_row(words, told),
+        "hkdf" => hkdf_row(alloc, words, told),
+        "hkdf-labelled" => labelled_row(alloc, words, told),
         "chacha20" => chacha_row(words, told),
         "configuration" => configuration_row(words, told),
         "cdis" => cdis_row(words, told),
@@ -60,7 +61,7 @@ fn pieces_row(words: &[Word<'_>], told: &mut String) -> Told {
     show(told, &mac.finish())
 }
 
-fn hkdf_row(words: &[Word<'_>], told: &mut String) -> Told {
+fn hkdf_row(alloc: Global, words: &[Word<'_>], told: &mut String) -> Told {
     let [salt, material, info, len] = words else {
         return Err(RowFault::Unreadable);
     };
@@ -70,12 +71,12 @@ fn hkdf_row(words: &[Word<'_>], told: &mut String) -> Told {
     };
     let info = info.bytes()?;
     let len = len.length_to(MAX_OUTPUT)?;
-    let mut output = [0; MAX_OUTPUT];
-    expand(&prk, info, &mut output[..len]);
-    show(told, &output[..len])
+    let mut output = vec![in alloc; 0; len]?;
+    expand(&prk, info, &mut output);
+    show(told, &output)
 }
 
-fn labelled_row(words: &[Word<'_>], told: &mut String) -> Told {
+fn labelled_row(alloc: Global, words: &[Word<'_>], told: &mut String) -> Told {
     let [material, purpose, label, len] = words else {
         return Err(RowFault::Unreadable);
     };
@@ -83,9 +84,9 @@ fn labelled_row(words: &[Word<'_>], told: &mut String) -> Told {
     let purpose = purpose.bytes()?;
     let label = label.at_most(255)?;
     let len = len.length_to(MAX_OUTPUT)?;
-    let mut output = [0; MAX_OUTPUT];
-    expand_labelled(&prk, purpose, label, &mut output[..len]);
-    show(told, &output[..len])
+    let mut output = vec![in alloc; 0; len]?;
+    expand_labelled(&prk, purpose, label, &mut output);
+    show(told, &output)
 }
 
 fn chacha_row(words: &[Word<'_>], told: &mut String) -> Told {

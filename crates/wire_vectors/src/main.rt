@@ -29,7 +29,7 @@ fn tell(alloc: Global, words: &[Word<'_>], told: &mut String) -> Told {
     match about.text {
         "cbor" => items::tell(alloc, call.text, words, told),
         "message" => messages::tell(call.text, words, told),
-        "key" => keys::tell(call.text, words, told),
+        "key" => keys::tell(alloc, call.text, words, told),
         "box" => boxes::tell(call.text, words, told),
         "frame" => frames::tell(alloc, call.text, words, told),
         "text" => texts::tell(alloc, call.text, words, told),
