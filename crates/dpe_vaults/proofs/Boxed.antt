@@ -8,7 +8,8 @@ use Rattle.dpe_vaults.specs.declared.call.Op.{Op}
 use Rattle.dpe_vaults.specs.declared.call.Op.TheVariants.{Put, Get, Remove, Names}
 use Rattle.dpe_vaults.specs.Calls.{Call}
 use Rattle.dpe_vaults.specs.Named.{Named, named, name_order, name_limit, found, without, placed, placed_by, has_place}
-use Rattle.dpe_vaults.specs.Kept.{Called, Pair, after_by, code_by, names_of}
+use Rattle.dpe_vaults.specs.declared.reply.VaultReply.{VaultReply}
+use Rattle.dpe_vaults.specs.Kept.{Called, Pair, after_by, code_by, bytes_by, box_or_none, reply_from, names_of}
 use Rattle.dpe_vaults.specs.Tables.{box_at, boxed, AreStored}
 use Rattle.dpe_vaults.proofs.Names.{placed_all, without_all, all_by}
 
@@ -119,3 +120,34 @@ after_stored Put count rows c stored =
 after_stored Get count rows c stored = stored_more count rows stored
 after_stored Remove count rows c stored = without_all (λ r. r.value < count + 1) rows c.name (stored_more count rows stored)
 after_stored Names count rows c stored = stored_more count rows stored
+
+-- ---- what is replied
+
+-- the place that is found is that of an entry
+found_in : (t : Bool) (count v at : ℕ) (o : Option ℕ) → v < count → (o ≡ Some at → at < count) → cond t (Some v) o ≡ Some at → at < count
+found_in true count v at o lt more is = let same : v ≡ at = cc in omega arith
+found_in false count v at o lt more is = more is
+
+pub found_stored : (count : ℕ) (rows : List (Named ℕ)) (name : List ℕ) (at : ℕ) → AreStored count rows → found rows name ≡ Some at → at < count
+found_stored count [] name at stored is = cc
+found_stored count (r ∷ rows) name at stored is =
+    found_in (bytes_eq r.name name) count r.value at (found rows name) stored.0 (found_stored count rows name at stored.1) is
+
+pub box_found : (es : List Called) (rows : List (Named ℕ)) (name : List ℕ) (at : ℕ) → found rows name ≡ Some at → box_or_none (found (boxed es rows) name) ≡ box_at es at
+box_found es rows name at is =
+    ap box_or_none (found_image (box_at es) rows name ∙ ap (λ (o : Option ℕ). option_map (box_at es) o) is)
+
+pub no_box : (es : List Called) (rows : List (Named ℕ)) (name : List ℕ) → found rows name ≡ None → box_or_none (found (boxed es rows) name) ≡ []
+no_box es rows name is =
+    ap box_or_none (found_image (box_at es) rows name ∙ ap (λ (o : Option ℕ). option_map (box_at es) o) is)
+
+abbrev reply : ℕ → List ℕ → VaultReply
+reply code bytes = record { code = code; bytes = bytes }
+
+-- the code that the rows give and the bytes that the pairs give are the reply
+pub replied_by : (es : List Called) (rows : List (Named ℕ)) (c : Call) (op : Op) (code : ℕ) (bytes : List ℕ) → op ≡ c.op → code ≡ code_by op rows c
+    → bytes ≡ bytes_by op (boxed es rows) c → reply code bytes ≡ reply_from (boxed es rows) c
+replied_by es rows c op code bytes is code_is bytes_are =
+    subst (λ (o : Op). reply code bytes ≡ reply (code_by o (boxed es rows) c) (bytes_by o (boxed es rows) c)) is
+    (ap (λ (n : ℕ). reply n bytes) (code_is ∙ sym (code_image (box_at es) op rows c))
+    ∙ ap (λ (b : List ℕ). reply (code_by op (boxed es rows) c) b) bytes_are)

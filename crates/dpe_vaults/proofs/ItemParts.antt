@@ -1,7 +1,7 @@
 -- What the first bytes of an item say of it.
-use Rattle.std.proofs.Common.{◌≡◌, ℕ, ◌+◌, ◌-◌, ◌^◌, ◌<◌, ◌≤◌, List, [], ◌∷◌, ◌++◌, length, take, drop, get_or, refl, sym, ap, subst, ◌∙◌, append_assoc, append-nil, take-append-drop, arith}
+use Rattle.std.proofs.Common.{◌≡◌, ℕ, zero, suc, ◌+◌, ◌-◌, ◌^◌, ◌<◌, ◌≤◌, List, [], ◌∷◌, ◌++◌, length, take, drop, get_or, refl, sym, ap, subst, ◌∙◌, append_assoc, append-nil, take-append-drop, arith}
 use Rattle.std.specs.Int.{w16, to_be_bytes, from_be_bytes}
-use Rattle.std.proofs.lemmas.List.{length-append, length-take, take_at, drop_at}
+use Rattle.std.proofs.lemmas.List.{length-append, length-take, take_at, drop_at, get_or-drop}
 use Rattle.std.proofs.lemmas.Nat.{from_be_bytes-to_be_bytes_2, be_bytes_2}
 use Rattle.dpe_vaults.specs.declared.call.Op.{Op}
 use Rattle.dpe_vaults.specs.declared.call.Op.TheVariants.{Put, Get, Remove, Names}
@@ -20,13 +20,13 @@ too_short bytes short c more ok is =
     let all : length bytes ≡ length (item_bytes c) + length more = ap length is ∙ length-append (item_bytes c) more in
     omega (arith, all, item_length c)
 
-most_sealed_within : (op : Op) → most_sealed op ≤ 2133
+pub most_sealed_within : (op : Op) → most_sealed op ≤ 2133
 most_sealed_within Put = omega arith
 most_sealed_within Get = omega arith
 most_sealed_within Remove = omega arith
 most_sealed_within Names = omega arith
 
-most_name_within : (op : Op) → most_name op ≤ 32
+pub most_name_within : (op : Op) → most_name op ≤ 32
 most_name_within Put = omega arith
 most_name_within Get = omega arith
 most_name_within Remove = omega arith
@@ -211,3 +211,28 @@ behind_item v w s t okv okw e =
     let same : length v.sealed ≡ length w.sealed =
     sym (told_number (to_be_bytes w16 (length v.sealed)) v okv refl) ∙ told_number (to_be_bytes w16 (length v.sealed)) w okw n.told_is in
     (same_parts v.sealed w.sealed s t same n.behind_is).1
+
+-- ---- bytes
+
+pub two_list : (told : List ℕ) → length told ≡ 2 → get_or told 0 0 ∷ get_or told 1 0 ∷ [] ≡ told
+two_list [] two = absurd (omega arith)
+two_list (x ∷ []) two = absurd (omega arith)
+two_list (x ∷ y ∷ []) two = refl
+two_list (x ∷ y ∷ z ∷ told) two = absurd (omega arith)
+
+abbrev InRange : List ℕ → Type 0
+InRange xs = (i : ℕ) → get_or xs i 0 < 256
+
+range_drop : (n : ℕ) (xs : List ℕ) → InRange xs → InRange (drop n xs)
+range_drop n xs h i = let at : get_or (drop n xs) i 0 ≡ get_or xs (n + i) 0 = get_or-drop n xs i 0 in omega (arith, at, h (n + i))
+
+range_take : (k : ℕ) (xs : List ℕ) → InRange xs → InRange (take k xs)
+range_take zero xs h i = omega arith
+range_take (suc k) [] h i = omega arith
+range_take (suc k) (x ∷ xs) h zero = h zero
+range_take (suc k) (x ∷ xs) h (suc i) = range_take k xs (λ j. h (suc j)) i
+
+-- the two bytes behind so many and so many are bytes where all are
+pub told_range : (bytes behind others told : List ℕ) (size : ℕ) → InRange bytes → behind ≡ drop 3 bytes → others ≡ drop size behind → told ≡ take 2 others → InRange told
+told_range bytes behind others told size h first second third =
+    subst InRange (sym (third ∙ ap (take 2) (second ∙ ap (drop size) first))) (range_take 2 (drop size (drop 3 bytes)) (range_drop size (drop 3 bytes) (range_drop 3 bytes h)))

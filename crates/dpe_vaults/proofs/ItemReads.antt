@@ -37,7 +37,7 @@ not_yet bytes part need needs few c more ok is =
     sym (length-append bytes part) ∙ ap length is ∙ length-append (item_bytes c) more in
     omega (arith, least, all)
 
-at_end : (left : Option (List ℕ)) (rest : List ℕ) → IsAtEnd left → left ≡ Some rest → rest ≡ []
+pub at_end : (left : Option (List ℕ)) (rest : List ℕ) → IsAtEnd left → left ≡ Some rest → rest ≡ []
 at_end left rest end is = let h : IsAtEnd (Some rest) = subst IsAtEnd is end in h
 
 -- bytes that begin with no item, and nothing behind them

@@ -8,10 +8,10 @@ use Rattle.dpe_vaults.specs.declared.call.Op.{Op}
 use Rattle.dpe_vaults.specs.declared.call.Op.TheVariants.{Put, Get, Remove, Names}
 use Rattle.dpe_vaults.specs.declared.reply.VaultReply.{VaultReply}
 use Rattle.dpe_vaults.specs.Calls.{Call}
-use Rattle.dpe_vaults.specs.Named.{Named, named, has_place, placed, without, AreOrdered}
+use Rattle.dpe_vaults.specs.Named.{Named, named, has_place, AreOrdered}
 use Rattle.dpe_vaults.specs.Kept.{Pair, after_by, after_one, after, kept, vault_reply, reply_to, calls_at}
 use Rattle.dpe_vaults.specs.Laws.{replies_at, EachAlone, KeptInOrder}
-use Rattle.dpe_vaults.proofs.Names.{placed_ordered, without_ordered}
+use Rattle.dpe_vaults.proofs.Names.{put_ordered, without_ordered}
 use Rattle.dpe_vaults.proofs.Held.{own_more, other_more}
 
 -- ---- each alone
@@ -43,10 +43,6 @@ pub alone : EachAlone
 alone l cs ds same = by_own l [] cs ∙ ap (λ (own : List Call). replies_own [] own) same ∙ sym (by_own l [] ds)
 
 -- ---- in order
-
-put_ordered : (t : Bool) (ps : List Pair) (new : Pair) → AreOrdered ps → AreOrdered (cond t (placed ps new) ps)
-put_ordered true ps new ordered = placed_ordered ps new ordered
-put_ordered false ps new ordered = ordered
 
 by_ordered : (op : Op) (ps : List Pair) (c : Call) → AreOrdered ps → AreOrdered (after_by op c.sealed ps c)
 by_ordered Put ps c ordered = put_ordered (has_form c.sealed && has_place ps c.name) ps (named c.name c.sealed) ordered

@@ -17,7 +17,7 @@ other_if_less a b e = sym (is_eq-slice_cmp a b) ∙ ap is_eq e
 other_if_greater : (a b : List ℕ) → name_order a b ≡ Greater → bytes_eq a b ≡ false
 other_if_greater a b e = sym (is_eq-slice_cmp a b) ∙ ap is_eq e
 
-same_if_equal : (a b : List ℕ) → name_order a b ≡ Equal → a ≡ b
+pub same_if_equal : (a b : List ℕ) → name_order a b ≡ Equal → a ≡ b
 same_if_equal a b e = (bytes_eq-Decides a b).0 (sym (is_eq-slice_cmp a b) ∙ ap is_eq e)
 
 equal_if_same : (a b : List ℕ) → a ≡ b → name_order a b ≡ Equal
@@ -139,6 +139,10 @@ module _ {A : Type 0} where
   placed_ordered [] new ordered = (tt, tt)
   placed_ordered (n ∷ ns) new ordered =
       placed_by_ordered (name_order n.name new.name) n new ns refl ordered (placed_ordered ns new ordered.1)
+
+  pub put_ordered : (t : Bool) (ns : List (Named A)) (new : Named A) → AreOrdered ns → AreOrdered (cond t (placed ns new) ns)
+  put_ordered true ns new ordered = placed_ordered ns new ordered
+  put_ordered false ns new ordered = ordered
 
   kept_all : (t : Bool) (P : Named A → Type 0) (n : Named A) (more : List (Named A)) → P n → AllByRecursion P more → AllByRecursion P (cond t more (n ∷ more))
   kept_all true P n more p all = all

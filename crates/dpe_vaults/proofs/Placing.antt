@@ -1,8 +1,10 @@
 -- What a search in a table finds, and what is changed there.
 use Rattle.std.proofs.Common.{◌≡◌, ℕ, zero, suc, ◌+◌, ◌<◌, ◌≤◌, Bool, true, false, cond, List, [], ◌∷◌, ◌++◌, length, map, take, drop, get_or, set, Option, Some, None, Ordering, Less, Equal, Greater, refl, sym, ap, subst, ◌∙◌, append_assoc, append-nil, take-append-drop, arith}
-use Rattle.std.specs.Prelude.{◌||◌, is_some, nat_lt, insert, remove, flat_map}
+use Rattle.std.specs.Prelude.{◌||◌, ◌==◌, is_some, nat_lt, insert, remove}
+use Rattle.std.specs.List.{refill}
+use Rattle.std.proofs.lemmas.Bool.Decides.{nat_tests}
 use Rattle.std.specs.Ordering.{ordering_reverse}
-use Rattle.std.proofs.lemmas.List.{map-append, length-map, length-append, length-take, take-map, drop_more, take_more, take_at, drop_at, set_at, map-set, get_or_at}
+use Rattle.std.proofs.lemmas.List.{map-append, length-map, length-append, length-take, take-map, drop_more, take_more, take_at, drop_at, set_at, map-set, get_or_at, length-set}
 use Rattle.dpe_vaults.specs.declared.table.Row.{Row}
 use Rattle.dpe_vaults.specs.Named.{Named, named, name_order, name_limit, found, without, placed, has_place, AreOrdered}
 use Rattle.dpe_vaults.specs.Kept.{names_of}
@@ -168,3 +170,49 @@ pub names_more : (rows : List Row) (i : ℕ) (d : Row) → i < length rows
     → names_of (rows_of (take (i + 1) rows)) ≡ names_of (rows_of (take i rows)) ++ length (get_or rows i d).name ∷ (get_or rows i d).name
 names_more rows i d lt =
     ap (λ (rs : List Row). names_of (rows_of rs)) (take_more rows i d lt) ∙ names_append (take i rows) (get_or rows i d)
+
+-- ---- rows as they lie in memory, which are seen as this list
+
+module _ (items : List Row) (view : List (Named ℕ)) (name : List ℕ) (at : ℕ) (is : rows_of items ≡ view) where
+  same_length : length view ≡ length items
+  same_length = sym (ap length is) ∙ length-map items row_of
+
+  pub found_at : (d : Row) → StandsAt view name at → ◌≡◌ {A = Option ℕ} (Some (get_or items at d).at) (found view name)
+  found_at d s =
+      let lt : at < length items = omega (arith, stands_within view name at s, same_length) in
+      let row : row_of (get_or items at d) ≡ s.row =
+      sym (rows_get items at d lt) ∙ ap (λ (rs : List (Named ℕ)). get_or rs at (row_of d)) is ∙ stands_row view name at s (row_of d) in
+      ap (λ (n : Named ℕ). Some n.value) row ∙ sym (stands_found view name at s)
+
+  pub removed_rows : (new : List Row) → new ≡ remove items at → StandsAt view name at → rows_of new ≡ without view name
+  removed_rows new becomes s =
+      ap rows_of becomes ∙ rows_remove items at ∙ ap (λ (rs : List (Named ℕ)). remove rs at) is ∙ stands_removed view name at s
+
+  pub set_rows : (new : List Row) (row : Row) (value : ℕ) → new ≡ set items at row → row_of row ≡ named name value → StandsAt view name at
+      → rows_of new ≡ cond (has_place view name) (placed view (named name value)) view
+  set_rows new row value becomes row_is s =
+      ap rows_of becomes ∙ rows_set items at row ∙ ap (λ (rs : List (Named ℕ)). set rs at (row_of row)) is
+      ∙ ap (λ (r : Named ℕ). set view at r) row_is ∙ stands_placed view name at s value
+
+  pub inserted_rows : (new : List Row) (row : Row) (value : ℕ) → new ≡ insert items at row → row_of row ≡ named name value → BelongsAt view name at
+      → nat_lt (length items) name_limit ≡ true → rows_of new ≡ cond (has_place view name) (placed view (named name value)) view
+  inserted_rows new row value becomes row_is b room =
+      ap rows_of becomes ∙ rows_insert items at row ∙ ap (λ (rs : List (Named ℕ)). insert rs at (row_of row)) is
+      ∙ ap (λ (r : Named ℕ). insert view at r) row_is
+      ∙ belongs_placed view name at b value (ap (λ (n : ℕ). nat_lt n name_limit) same_length ∙ room)
+
+  pub full_rows : BelongsAt view name at → nat_lt (length items) name_limit ≡ false → has_place view name ≡ false
+  full_rows b full = belongs_place view name at b ∙ ap (λ (n : ℕ). nat_lt n name_limit) same_length ∙ full
+
+-- a list of so many names is full, and one of fewer isn't
+pub is_full : (n : ℕ) → (n == 32) ≡ true → nat_lt n name_limit ≡ false
+is_full n e = grind (arith, nat_tests)
+
+pub is_open : (n : ℕ) → n ≤ 32 → (n == 32) ≡ false → nat_lt n name_limit ≡ true
+is_open n most e = grind (arith, nat_tests)
+
+-- what was written through a borrow of all elements
+pub refilled : (items others : List Row) (at : ℕ) (row : Row) → others ≡ items → refill (length items) items (set others at row) ≡ set items at row
+refilled items others at row is =
+    take_at (set others at row) (drop (length (set others at row)) items) (length items) (length-set others at row ∙ ap length is)
+    ∙ ap (λ (rs : List Row). set rs at row) is

@@ -27,7 +27,7 @@ const HEAD_SIZE: usize = 3;
 const LENGTH_SIZE: usize = 2;
 
 /// What bytes are as the front of an item.
-#[derive(Clone, Copy, Debug, PartialEq, Eq)]
+#[derive(Clone, Copy)]
 pub(crate) enum Front {
     /// They begin with an item.
     Whole,
@@ -38,7 +38,7 @@ pub(crate) enum Front {
 }
 
 /// What was read in an item's place.
-#[derive(Clone, Copy, Debug, PartialEq, Eq)]
+#[derive(Clone, Copy)]
 pub(crate) enum Taken {
     /// A whole item, and just its bytes were taken.
     Whole,

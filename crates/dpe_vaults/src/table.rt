@@ -118,16 +118,17 @@ impl Table {
         ensures place { result ≡ has_place self.old name.now }
         ensures rows { self.new ≡ if has_place self.old name.now then placed self.old (named name.now at) else self.old }
     {
+        let row = row_for(name, at);
         match self.seek(name) {
             Ok(place) => {
-                self.rows[place] = row_for(name, at);
+                self.rows[place] = row;
                 true
             }
             Err(place) => {
                 if self.rows.is_full() {
                     return false;
                 }
-                self.rows.insert(place, row_for(name, at));
+                self.rows.insert(place, row);
                 true
             }
         }

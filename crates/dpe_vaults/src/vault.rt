@@ -84,7 +84,7 @@ fn give_box(table: &Table, stored: &Stored, name: &[u8], out: &mut Packet) -> u8
             DONE
         }
         None => {
-            out.set(&[]);
+            out.truncate(0);
             NO_NAME
         }
     }
@@ -104,17 +104,17 @@ fn answer(table: &mut Table, stored: &Stored, call: &VaultCall, reply: &mut Vaul
     ensures rows { table.new ≡ after_by call.now.op (length stored.now.entries) table.old call.now }
     ensures reply { reply.new ≡ reply_from (boxed stored.now.entries table.old) call.now }
 {
+    let name = call.name();
+    reply.bytes.truncate(0);
     match call.op() {
         Op::Put => {
-            reply.bytes.set(&[]);
             reply.code = put_box(table, call, stored.len());
         }
         Op::Get => {
-            reply.code = give_box(table, stored, call.name(), &mut reply.bytes);
+            reply.code = give_box(table, stored, name, &mut reply.bytes);
         }
         Op::Remove => {
-            reply.bytes.set(&[]);
-            reply.code = take_out(table, call.name());
+            reply.code = take_out(table, name);
         }
         Op::Names => {
             table.names(&mut reply.bytes);
@@ -145,8 +145,8 @@ impl Vault {
         ensures reply { reply.new ≡ reply_to (calls_of self.old.entries) call.now }
         ensures legal { Legal self.new.entries }
     {
-        let table = &mut self.tables[usize::from(call.locality())];
-        answer(table, &self.stored, call, reply);
+        let locality = usize::from(call.locality());
+        answer(&mut self.tables[locality], &self.stored, call, reply);
         self.stored.append(caller, call, reply);
     }
 

@@ -33,7 +33,7 @@ fn shortest_box() -> [u8; BOX_SIZE] {
 // Puts boxes under the names 0, 1, .. 39 by one pass, or as many as the desk has room for, and counts the replies.
 fn put_all<R: Wait>(rt: &R, desk: &Desk<Vault>, pass: &mut Pass<Vault>, locality: u8) -> Count
     requires near { locality ≤ 7 }
-    requires { Belongs desk.now pass.old }
+    requires belongs { Belongs desk.now pass.old }
     ensures belongs { Belongs desk.now pass.new }
     ensures stake { pass.new.view.stake ≡ pass.old.view.stake }
 {

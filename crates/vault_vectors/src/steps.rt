@@ -15,31 +15,30 @@ fn op_of(word: &str) -> Result<Op, Fault> {
     }
 }
 
-// Whether a name has 1 to 32 bytes.
-fn is_name(name: &[u8]) -> bool {
-    !name.is_empty() && name.len() <= 32
-}
-
 // A call of these parts, where a vault takes such calls.
 fn call_of(locality: u8, op: Op, name: &[u8], sealed: &[u8]) -> Result<VaultCall, Fault> {
     if locality > 7 {
         return Err(Fault::Unread);
     }
-    match op {
-        Op::Put if is_name(name) && sealed.len() <= 2133 => {
-            Ok(VaultCall::new(locality, Op::Put, name, sealed))
+    if op == Op::Names {
+        if !name.is_empty() || !sealed.is_empty() {
+            return Err(Fault::Unread);
         }
-        Op::Get if is_name(name) && sealed.is_empty() => {
-            Ok(VaultCall::new(locality, Op::Get, name, sealed))
-        }
-        Op::Remove if is_name(name) && sealed.is_empty() => {
-            Ok(VaultCall::new(locality, Op::Remove, name, sealed))
-        }
-        Op::Names if name.is_empty() && sealed.is_empty() => {
-            Ok(VaultCall::new(locality, Op::Names, name, sealed))
-        }
-        _ => Err(Fault::Unread),
+        return Ok(VaultCall::new(locality, Op::Names, name, sealed));
     }
+    if name.is_empty() || name.len() > 32 || sealed.len() > 2133 {
+        return Err(Fault::Unread);
+    }
+    if op == Op::Put {
+        return Ok(VaultCall::new(locality, Op::Put, name, sealed));
+    }
+    if !sealed.is_empty() {
+        return Err(Fault::Unread);
+    }
+    if op == Op::Get {
+        return Ok(VaultCall::new(locality, Op::Get, name, sealed));
+    }
+    Ok(VaultCall::new(locality, Op::Remove, name, sealed))
 }
 
 // Steps a vault that isn't full by the call `CALLER:LOCALITY:OP:NAME:BOX`.
@@ -84,13 +83,13 @@ pub(crate) fn step(alloc: Global, row: &[&str]) -> Result<String, Fault> {
         return Err(Fault::Unread);
     };
     let numbers = numbers_of(alloc, capacity)?;
-    let [capacity] = numbers.as_slice() else {
+    let &[capacity] = numbers.as_slice() else {
         return Err(Fault::Unread);
     };
-    if *capacity == 0 || *capacity > 4096 {
+    if capacity == 0 || capacity > 4096 {
         return Err(Fault::Unread);
     }
-    let mut vault = Vault::make(alloc, *capacity)?;
+    let mut vault = Vault::make(alloc, capacity)?;
     for word in calls {
         take(alloc, &mut vault, word)?;
     }

@@ -36,3 +36,14 @@ reads-preserved g c = reading_more (g.S.Source.left c.args.source.now) (g.S.Sour
     c.reads.room c.reads.have c.reads.invariant
     (g.S.Source.left c.fill_behind.new.source) (g.S.Source.faults c.fill_behind.new.source) c.fill_behind.new.room c.in-Short.need c.in-Ok.count c.fill_behind.array_long
     c.in-Short.ensures c.in-Ok.ensures.front c.in-Ok.ensures.bytes c.in-Ok.ensures.bound (omega arith) c.in-Ok.ensures.cause.kept
+
+pub returns-then-count-need-clause-item : goal.returns-then-count-need-clause-item
+returns-then-count-need-clause-item g c =
+    let part = take c.in-Ok.count (drop c.reads.have c.fill_behind.new.room) in
+    reading_cut (g.S.Source.left c.args.source.now) (g.S.Source.left c.reads.source) (g.S.Source.faults c.args.source.now) (g.S.Source.faults c.reads.source)
+    c.reads.room c.reads.have c.reads.invariant
+    (g.S.Source.left c.fill_behind.new.source) c.in-Short.need part c.in-Short.ensures.2 c.in-Ok.ensures.bytes
+    (omega (arith, c.if-count-need.true, length-take c.in-Ok.count (drop c.reads.have c.fill_behind.new.room)))
+    (c.in-Ok.ensures.end c.if-count-need.true)
+    (omega (arith, c.if-have-count-eq0.false, length-take c.in-Ok.count (drop c.reads.have c.fill_behind.new.room), length-drop c.reads.have c.fill_behind.new.room,
+    c.fill_behind.array_long, c.in-Ok.ensures.bound, c.in-Short.ensures.1, length-take c.reads.have c.reads.room, c.reads.invariant.within, c.reads.invariant.long))
