@@ -39,9 +39,11 @@ calls_more es e = map-append (λ (e : Called). e.call) es (e ∷ [])
 pub legal_more : (before : List Call) (es : List Called) (e : Called) → LegalAfter before es → e.reply ≡ reply_to (before ++ calls_of es) e.call
     → LegalAfter before (es ++ e ∷ [])
 legal_more before [] e legal is = (is ∙ ap (λ (cs : List Call). reply_to cs e.call) (append-nil before), tt)
-legal_more before (x ∷ es) e legal is =
-    (legal.0, legal_more (before ++ x.call ∷ []) es e legal.1
-    (is ∙ ap (λ (cs : List Call). reply_to cs e.call) (sym (append_assoc before (x.call ∷ []) (calls_of es)))))
+legal_more before (x ∷ es) e legal is = (
+  legal.0,
+  legal_more (before ++ x.call ∷ []) es e legal.1
+      (is ∙ ap (λ (cs : List Call). reply_to cs e.call) (sym (append_assoc before (x.call ∷ []) (calls_of es)))),
+)
 
 -- ---- tables
 

@@ -12,8 +12,11 @@ use Rattle.dpe_vaults.specs.Items.{op_number, item_bytes, item_limit, BeginsNoIt
 
 pub item_length : (c : Call) → length (item_bytes c) ≡ 5 + length c.name + length c.sealed
 item_length c =
-    omega (arith, length-append (c.locality ∷ op_number c.op ∷ length c.name ∷ c.name) (to_be_bytes w16 (length c.sealed) ++ c.sealed),
-    length-append (to_be_bytes w16 (length c.sealed)) c.sealed)
+    omega (
+      arith,
+      length-append (c.locality ∷ op_number c.op ∷ length c.name ∷ c.name) (to_be_bytes w16 (length c.sealed) ++ c.sealed),
+      length-append (to_be_bytes w16 (length c.sealed)) c.sealed,
+    )
 
 pub too_short : (bytes : List ℕ) → length bytes < 5 → BeginsNoItem bytes
 too_short bytes short c more ok is =
@@ -183,8 +186,7 @@ module _ (bytes head behind : List ℕ) (parts : bytes ≡ head ++ behind) (thre
           IsCall c × ((rest : List ℕ) × (bytes ≡ item_bytes c ++ rest))
       is_whole locality sealed at near least most fits bytes_in whole is =
           let n : length sealed ≡ from_be_bytes w16 told = omega (arith, ap length is, length-take (from_be_bytes w16 told) last) in
-          let told_is : to_be_bytes w16 (length sealed) ≡ told = be_bytes_2 told (length sealed) two bytes_in n in
-          (
+          let told_is : to_be_bytes w16 (length sealed) ≡ told = be_bytes_2 told (length sealed) two bytes_in n in (
             record {
               near = near;
               named = subst (λ (k : ℕ). least_name op ≤ k) (sym long) least;

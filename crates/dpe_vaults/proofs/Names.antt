@@ -128,10 +128,12 @@ module _ {A : Type 0} where
   placed_by_ordered Equal n new ns is ordered more =
       (subst (λ (a : List ℕ). Follow a ns) (same_if_equal n.name new.name (sym is)) ordered.0, ordered.1)
   placed_by_ordered Greater n new ns is ordered more =
-      let less : name_order new.name n.name ≡ Less = turned n.name new.name (sym is) in
-      (
-        (less, all_by (λ m. name_order n.name m.name ≡ Less) (λ m. name_order new.name m.name ≡ Less) ns
-            (λ m e. nat_list_cmp_total.trans new.name n.name m.name less e) ordered.0),
+      let less : name_order new.name n.name ≡ Less = turned n.name new.name (sym is) in (
+        (
+          less,
+          all_by (λ m. name_order n.name m.name ≡ Less) (λ m. name_order new.name m.name ≡ Less) ns
+              (λ m e. nat_list_cmp_total.trans new.name n.name m.name less e) ordered.0,
+        ),
         ordered,
       )
 
@@ -170,10 +172,12 @@ behind_after row behind name ordered same =
 
 -- and so do all from the first on that comes after it
 pub from_after : (row : Named ℕ) (behind : List (Named ℕ)) (name : List ℕ) → AreOrdered (row ∷ behind) → name_order row.name name ≡ Greater → AllAfter (row ∷ behind) name
-from_after row behind name ordered greater =
-    (greater, all_by (λ m. name_order row.name m.name ≡ Less) (λ m. name_order m.name name ≡ Greater) behind
-    (λ m e. nat_list_cmp_total.antisymm m.name name
-        ∙ ap ordering_reverse (nat_list_cmp_total.trans name row.name m.name (turned row.name name greater) e)) ordered.0)
+from_after row behind name ordered greater = (
+  greater,
+  all_by (λ m. name_order row.name m.name ≡ Less) (λ m. name_order m.name name ≡ Greater) behind
+      (λ m e. nat_list_cmp_total.antisymm m.name name
+      ∙ ap ordering_reverse (nat_list_cmp_total.trans name row.name m.name (turned row.name name greater) e)) ordered.0,
+)
 
 -- the rows from one on are in order where all are
 pub ordered_behind : (before more : List (Named ℕ)) → AreOrdered (before ++ more) → AreOrdered more

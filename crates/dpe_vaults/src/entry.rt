@@ -27,7 +27,8 @@ impl VaultEntry {
         ensures { self.new ≡ record { caller = caller; call = call.now; reply = reply.now } }
     {
         self.caller = caller;
-        self.call.store(call.locality(), call.op(), call.name(), call.sealed());
+        self.call
+            .store(call.locality(), call.op(), call.name(), call.sealed());
         self.reply.store(reply);
     }
 }

@@ -74,7 +74,10 @@ fn told(alloc: Global, entry: &VaultEntry) -> Result<String, AllocError> {
     let bytes = shown(alloc, entry.reply.bytes.bytes())?;
     let locality = entry.call.locality();
     let code = entry.reply.code;
-    format!(in alloc; "{}:{locality}:{op}:{name}:{sealed}:{code}:{bytes}", entry.caller)
+    format!(in alloc;
+        "{}:{locality}:{op}:{name}:{sealed}:{code}:{bytes}",
+        entry.caller
+    )
 }
 
 /// `CAPACITY CALL ..`: the number of entries of a vault after the calls, and each entry.

@@ -9,12 +9,11 @@ pub returns-then-length-most_sealed : goal.returns-then-length-most_sealed
 returns-then-length-most_sealed c =
     let told = c.split_at-3.result.0.now in
     let number : c.from-length.result ≡ from_be_bytes w16 told =
-    c.from-length.ensures ∙ c.from_be_bytes.ensures ∙ ap (from_be_bytes w16) (two_list told c.split_at-3.ensures.front_len) in
-    (
+    c.from-length.ensures ∙ c.from_be_bytes.ensures ∙ ap (from_be_bytes w16) (two_list told c.split_at-3.ensures.front_len) in (
       omega arith,
       wrong_length c.args.bytes.now c.split_at.result.0.now c.split_at.result.1.now c.split_at.ensures.by_index.0 c.split_at.ensures.front_len
-    c.in-Some.op c.in-Some.ensures.found c.split_at-2.result.0.now c.split_at-2.result.1.now c.split_at-3.result.0.now c.split_at-3.result.1.now
-    c.split_at-2.ensures.by_index.0 c.split_at-3.ensures.by_index.0 (c.split_at-2.ensures.front_len ∙ c.from-size.ensures) c.split_at-3.ensures.front_len
+          c.in-Some.op c.in-Some.ensures.found c.split_at-2.result.0.now c.split_at-2.result.1.now c.split_at-3.result.0.now c.split_at-3.result.1.now
+          c.split_at-2.ensures.by_index.0 c.split_at-3.ensures.by_index.0 (c.split_at-2.ensures.front_len ∙ c.from-size.ensures) c.split_at-3.ensures.front_len
           (omega (arith, number, c.most_sealed.ensures, c.if-length-most_sealed.true)),
     )
 
@@ -26,14 +25,13 @@ returns-then-behind-length c =
     let most : get_or c.split_at.result.0.now 2 0 ≤ most_name c.in-Some.op = search rules in
     let all = all_length c.args.bytes.now c.split_at.result.0.now c.split_at.result.1.now c.split_at.ensures.by_index.0 c.split_at.ensures.front_len
     c.in-Some.op c.in-Some.ensures.found c.split_at-2.result.0.now c.split_at-2.result.1.now c.split_at-3.result.0.now c.split_at-3.result.1.now
-    c.split_at-2.ensures.by_index.0 c.split_at-3.ensures.by_index.0 (c.split_at-2.ensures.front_len ∙ c.from-size.ensures) c.split_at-3.ensures.front_len in
-    (
+    c.split_at-2.ensures.by_index.0 c.split_at-3.ensures.by_index.0 (c.split_at-2.ensures.front_len ∙ c.from-size.ensures) c.split_at-3.ensures.front_len in (
       omega (arith, c.if-behind-length.true),
       omega (arith, all, most, most_name_within c.in-Some.op, most_sealed_within c.in-Some.op, c.most_sealed.ensures, c.if-length-most_sealed.false, c.if-behind-length.true),
       subst (λ (n : ℕ). NeedsMore c.args.bytes.now (n - length c.split_at-3.result.1.now)) (sym number)
           (short_sealed c.args.bytes.now c.split_at.result.0.now c.split_at.result.1.now c.split_at.ensures.by_index.0 c.split_at.ensures.front_len
-    c.in-Some.op c.in-Some.ensures.found c.split_at-2.result.0.now c.split_at-2.result.1.now c.split_at-3.result.0.now c.split_at-3.result.1.now
-    c.split_at-2.ensures.by_index.0 c.split_at-3.ensures.by_index.0 (c.split_at-2.ensures.front_len ∙ c.from-size.ensures) c.split_at-3.ensures.front_len
+          c.in-Some.op c.in-Some.ensures.found c.split_at-2.result.0.now c.split_at-2.result.1.now c.split_at-3.result.0.now c.split_at-3.result.1.now
+          c.split_at-2.ensures.by_index.0 c.split_at-3.ensures.by_index.0 (c.split_at-2.ensures.front_len ∙ c.from-size.ensures) c.split_at-3.ensures.front_len
           (omega (arith, number, c.if-behind-length.true))),
     )
 

@@ -10,7 +10,7 @@ pub returns-in-Whole-clause-item : goal.returns-in-Whole-clause-item
 returns-in-Whole-clause-item g c = (
   c.in-Whole.ensures.0,
   reading_whole (g.S.Source.left c.args.source.now) (g.S.Source.left c.reads.source) (g.S.Source.faults c.args.source.now) (g.S.Source.faults c.reads.source)
-    c.reads.room c.reads.have c.reads.invariant
+      c.reads.room c.reads.have c.reads.invariant
       c.judge.new.call c.in-Whole.ensures.1.0 c.in-Whole.ensures.0 c.in-Whole.ensures.1.1,
 )
 
@@ -45,5 +45,15 @@ returns-then-count-need-clause-item g c =
     (g.S.Source.left c.fill_behind.new.source) c.in-Short.need part c.in-Short.ensures.2 c.in-Ok.ensures.bytes
     (omega (arith, c.if-count-need.true, length-take c.in-Ok.count (drop c.reads.have c.fill_behind.new.room)))
     (c.in-Ok.ensures.end c.if-count-need.true)
-    (omega (arith, c.if-have-count-eq0.false, length-take c.in-Ok.count (drop c.reads.have c.fill_behind.new.room), length-drop c.reads.have c.fill_behind.new.room,
-    c.fill_behind.array_long, c.in-Ok.ensures.bound, c.in-Short.ensures.1, length-take c.reads.have c.reads.room, c.reads.invariant.within, c.reads.invariant.long))
+    (omega (
+      arith,
+      c.if-have-count-eq0.false,
+      length-take c.in-Ok.count (drop c.reads.have c.fill_behind.new.room),
+      length-drop c.reads.have c.fill_behind.new.room,
+      c.fill_behind.array_long,
+      c.in-Ok.ensures.bound,
+      c.in-Short.ensures.1,
+      length-take c.reads.have c.reads.room,
+      c.reads.invariant.within,
+      c.reads.invariant.long,
+    ))

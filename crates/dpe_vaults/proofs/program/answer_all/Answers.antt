@@ -42,7 +42,7 @@ returns-in_default-clause-sink_fault g c =
 pub loop-turn-preserved : goal.loop-turn-preserved
 loop-turn-preserved g c = (
   running_more c.args.entries (g.S.Source.left c.args.source.now) (g.S.Source.left c.loop-turn.source) (g.K.Sink.bytes c.args.sink.now) (g.K.Sink.bytes c.loop-turn.sink)
-    c.loop-turn.vault c.loop-turn._turn c.loop-turn.invariant.0
+      c.loop-turn.vault c.loop-turn._turn c.loop-turn.invariant.0
       (g.S.Source.left c.read_item.new.source) (g.K.Sink.bytes c.answer.new.sink) c.answer.new.vault c.read_item.new.call c.in-Whole.ensures.item.0 c.in-Whole.ensures.item.1 c.answer.ensures.vault c.in-Ok.ensures.ok,
   c.in-Whole.ensures.cause ∙ c.loop-turn.invariant.1,
   c.in-Ok.ensures.cause.kept ∙ c.loop-turn.invariant.2,
