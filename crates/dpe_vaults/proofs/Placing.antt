@@ -4,12 +4,12 @@ use Rattle.std.specs.Prelude.{◌||◌, ◌==◌, is_some, nat_lt, insert, remov
 use Rattle.std.specs.List.{refill}
 use Rattle.std.proofs.lemmas.Bool.Decides.{nat_tests}
 use Rattle.std.specs.Ordering.{ordering_reverse}
-use Rattle.std.proofs.lemmas.List.{map-append, length-map, length-append, length-take, take-map, drop_more, take_more, take_at, drop_at, set_at, map-set, get_or_at, length-set}
+use Rattle.std.proofs.lemmas.List.{map-append, length-map, length-append, length-take, take-map, drop_more, take_more, take_at, drop_at, set_at, map-set, get_or_at, length-set, drop_all}
 use Rattle.dpe_vaults.specs.declared.table.Row.{Row}
 use Rattle.dpe_vaults.specs.Named.{Named, named, name_order, name_limit, found, without, placed, has_place, AreOrdered}
 use Rattle.dpe_vaults.specs.Kept.{names_of}
 use Rattle.dpe_vaults.specs.Tables.{row_of, rows_of, AllBefore, AllAfter, StandsAt, BelongsAt}
-use Rattle.dpe_vaults.proofs.Names.{found_there, found_absent, without_there, without_absent, placed_there, placed_absent, behind_after, from_after, ordered_behind, before_more}
+use Rattle.dpe_vaults.proofs.Names.{found_there, found_absent, without_there, without_absent, placed_there, placed_absent, behind_after, from_after, ordered_behind, before_same, before_less}
 
 -- ---- the search
 
@@ -22,49 +22,52 @@ split_at rows i d lt =
 front_length : (rows : List Row) (i : ℕ) → i ≤ length rows → length (rows_of (take i rows)) ≡ i
 front_length rows i le = length-map (take i rows) row_of ∙ omega (arith, length-take i rows)
 
-module _ (rows : List Row) (name : List ℕ) (i : ℕ) (d : Row) (lt : i < length rows) (all : AllBefore (rows_of (take i rows)) name) where
-  pub seek_more : name_order (get_or rows i d).name name ≡ Less → AllBefore (rows_of (take (i + 1) rows)) name
-  seek_more less =
+module _ (rows : List Row) (name : List ℕ) (i : ℕ) (d : Row) (lt : i < length rows) (ordered : AreOrdered (rows_of rows)) where
+  ordered_parts : AreOrdered (rows_of (take i rows) ++ row_of (get_or rows i d) ∷ rows_of (drop (i + 1) rows))
+  ordered_parts = subst (λ (rs : List (Named ℕ)). AreOrdered rs) (split_at rows i d lt) ordered
+
+  ordered_there : AreOrdered (row_of (get_or rows i d) ∷ rows_of (drop (i + 1) rows))
+  ordered_there = ordered_behind (rows_of (take i rows)) (row_of (get_or rows i d) ∷ rows_of (drop (i + 1) rows)) ordered_parts
+
+  pub seek_less : name_order (get_or rows i d).name name ≡ Less → AllBefore (rows_of (take (i + 1) rows)) name
+  seek_less less =
       let is : rows_of (take (i + 1) rows) ≡ rows_of (take i rows) ++ row_of (get_or rows i d) ∷ [] =
       ap rows_of (take_more rows i d lt) ∙ map-append row_of (take i rows) (get_or rows i d ∷ []) in
-      subst (λ (rs : List (Named ℕ)). AllBefore rs name) (sym is) (before_more (rows_of (take i rows)) (row_of (get_or rows i d)) name all less)
+      subst (λ (rs : List (Named ℕ)). AllBefore rs name) (sym is)
+      (before_less (rows_of (take i rows)) (row_of (get_or rows i d)) (rows_of (drop (i + 1) rows)) name ordered_parts less)
 
-  ordered_there : AreOrdered (rows_of rows) → AreOrdered (row_of (get_or rows i d) ∷ rows_of (drop (i + 1) rows))
-  ordered_there ordered =
-      ordered_behind (rows_of (take i rows)) (row_of (get_or rows i d) ∷ rows_of (drop (i + 1) rows))
-      (subst (λ (rs : List (Named ℕ)). AreOrdered rs) (split_at rows i d lt) ordered)
+  pub seek_greater : name_order (get_or rows i d).name name ≡ Greater → AllAfter (rows_of (drop i rows)) name
+  seek_greater greater =
+      subst (λ (rs : List (Named ℕ)). AllAfter rs name) (sym (ap rows_of (drop_more rows i d lt)))
+      (from_after (row_of (get_or rows i d)) (rows_of (drop (i + 1) rows)) name ordered_there greater)
 
-  pub seek_found : AreOrdered (rows_of rows) → (get_or rows i d).name ≡ name → StandsAt (rows_of rows) name i
-  seek_found ordered same = record {
+  pub seek_found : (get_or rows i d).name ≡ name → StandsAt (rows_of rows) name i
+  seek_found same = record {
     before = rows_of (take i rows);
     row = row_of (get_or rows i d);
     behind = rows_of (drop (i + 1) rows);
     rows_are = split_at rows i d lt;
     place = front_length rows i (omega arith);
-    all_before = all;
+    all_before = before_same (rows_of (take i rows)) (row_of (get_or rows i d)) (rows_of (drop (i + 1) rows)) name ordered_parts same;
     same = same;
-    all_after = behind_after (row_of (get_or rows i d)) (rows_of (drop (i + 1) rows)) name (ordered_there ordered) same;
+    all_after = behind_after (row_of (get_or rows i d)) (rows_of (drop (i + 1) rows)) name ordered_there same;
   }
 
-  pub seek_past : AreOrdered (rows_of rows) → name_order (get_or rows i d).name name ≡ Greater → BelongsAt (rows_of rows) name i
-  seek_past ordered greater = record {
-    before = rows_of (take i rows);
-    behind = row_of (get_or rows i d) ∷ rows_of (drop (i + 1) rows);
-    rows_are = split_at rows i d lt;
-    place = front_length rows i (omega arith);
-    all_before = all;
-    all_after = from_after (row_of (get_or rows i d)) (rows_of (drop (i + 1) rows)) name (ordered_there ordered) greater;
-  }
-
-pub seek_end : (rows : List Row) (name : List ℕ) → AllBefore (rows_of rows) name → BelongsAt (rows_of rows) name (length rows)
-seek_end rows name all = record {
-  before = rows_of rows;
-  behind = [];
-  rows_are = sym (append-nil (rows_of rows));
-  place = length-map rows row_of;
+pub seek_none : (rows : List Row) (name : List ℕ) (i high : ℕ) → i ≤ length rows → high ≡ i → AllBefore (rows_of (take i rows)) name
+    → AllAfter (rows_of (drop high rows)) name → BelongsAt (rows_of rows) name i
+seek_none rows name i high le same all rest = record {
+  before = rows_of (take i rows);
+  behind = rows_of (drop i rows);
+  rows_are = ap rows_of (sym (take-append-drop i rows)) ∙ map-append row_of (take i rows) (drop i rows);
+  place = front_length rows i le;
   all_before = all;
-  all_after = tt;
+  all_after = subst (λ (n : ℕ). AllAfter (rows_of (drop n rows)) name) same rest;
 }
+
+-- nothing comes after the last row
+pub after_end : (rows : List Row) (name : List ℕ) (n : ℕ) → n ≡ length rows → AllAfter (rows_of (drop n rows)) name
+after_end rows name n is =
+    subst (λ (rs : List Row). AllAfter (rows_of rs) name) (sym (drop_all n rows (omega (arith, is)))) tt
 
 -- ---- edits at a place
 

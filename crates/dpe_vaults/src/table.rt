@@ -92,14 +92,17 @@ impl Table {
         ensures { Seeks self.now name.now result }
     {
         let rows = self.rows.as_slice();
-        for (at, row) in rows.iter().enumerate() {
-            match order_of(row, name) {
-                Ordering::Less => {}
-                Ordering::Equal => return Ok(at),
-                Ordering::Greater => return Err(at),
+        let mut low = 0;
+        let mut high = rows.len();
+        'halves: while low < high {
+            let middle = low + (high - low) / 2;
+            match order_of(&rows[middle], name) {
+                Ordering::Less => low = middle + 1,
+                Ordering::Equal => return Ok(middle),
+                Ordering::Greater => high = middle,
             }
         }
-        Err(rows.len())
+        Err(low)
     }
 
     /// The place of the entry whose call put the box of a name.
