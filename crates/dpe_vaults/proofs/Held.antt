@@ -1,7 +1,7 @@
 -- A vault with one entry more.
-use Rattle.std.proofs.Common.{◌≡◌, ◌≢◌, ℕ, ◌<◌, ◌≤◌, Bool, true, false, cond, List, [], ◌∷◌, ◌++◌, length, get_or, set, refl, sym, ap, subst, ◌∙◌, append_assoc, append-nil, arith}
+use Rattle.std.proofs.Common.{◌≡◌, ◌≢◌, ℕ, ◌+◌, ◌<◌, ◌≤◌, Bool, true, false, cond, List, [], ◌∷◌, ◌++◌, length, map, get_or, set, refl, sym, ap, subst, ◌∙◌, append_assoc, append-nil, arith}
 use native.Mathlib.Decide.{ℕ_discrete}
-use Rattle.std.specs.Prelude.{◌==◌}
+use Rattle.std.specs.Prelude.{◌==◌, filter}
 use Rattle.std.proofs.lemmas.Bool.Decides.{nat_tests}
 use Rattle.std.proofs.lemmas.List.{map-append, length-append, length-set, get_or-set_same, get_or-set_other, get_or_read}
 use Rattle.std.proofs.lemmas.List.Elements.{filter-append}
@@ -9,7 +9,7 @@ use Rattle.dpe_desk.specs.Entries.{entry}
 use Rattle.dpe_vaults.specs.declared.reply.VaultReply.{VaultReply}
 use Rattle.dpe_vaults.specs.Calls.{Call}
 use Rattle.dpe_vaults.specs.Named.{Named}
-use Rattle.dpe_vaults.specs.Kept.{Called, Pair, after_by, after_one, after, kept, reply_from, reply_to, calls_at, calls_of, LegalAfter, Legal}
+use Rattle.dpe_vaults.specs.Kept.{Called, Pair, after_by, after_one, after, kept, reply_from, vault_reply, reply_to, calls_at, calls_of, LegalAfter, Legal}
 use Rattle.dpe_vaults.specs.Tables.{box_at, boxed, AreStored}
 use Rattle.dpe_vaults.specs.Vaults.{Holds, AreHeld}
 use Rattle.dpe_vaults.proofs.Boxed.{after_image, box_new, boxed_more, stored_more, after_stored}

@@ -1,12 +1,12 @@
 -- What the first bytes of an item say of it.
-use Rattle.std.proofs.Common.{◌≡◌, ℕ, zero, suc, ◌+◌, ◌-◌, ◌^◌, ◌<◌, ◌≤◌, List, [], ◌∷◌, ◌++◌, length, take, drop, get_or, refl, sym, ap, subst, ◌∙◌, append_assoc, take-append-drop, arith}
+use Rattle.std.proofs.Common.{◌≡◌, ℕ, zero, suc, ◌+◌, ◌-◌, ◌^◌, ◌<◌, ◌≤◌, List, [], ◌∷◌, ◌++◌, length, take, drop, get_or, refl, sym, ap, subst, ◌∙◌, append_assoc, append-nil, take-append-drop, arith}
 use Rattle.std.specs.Int.{w16, to_be_bytes, from_be_bytes}
 use Rattle.std.proofs.lemmas.List.{length-append, length-take, take_at, drop_at, get_or-drop}
 use Rattle.std.proofs.lemmas.Nat.{from_be_bytes-to_be_bytes_2, be_bytes_2}
 use Rattle.dpe_vaults.specs.declared.call.Op.{Op}
 use Rattle.dpe_vaults.specs.declared.call.Op.TheVariants.{Put, Get, Remove, Names}
 use Rattle.dpe_vaults.specs.Calls.{Call, IsCall, least_name, most_name, most_sealed}
-use Rattle.dpe_vaults.specs.Items.{op_number, item_bytes, BeginsNoItem, NeedsMore}
+use Rattle.dpe_vaults.specs.Items.{op_number, item_bytes, item_limit, BeginsNoItem, NeedsMore}
 
 -- ---- sizes
 

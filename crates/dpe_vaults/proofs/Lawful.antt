@@ -8,8 +8,8 @@ use Rattle.dpe_vaults.specs.declared.call.Op.{Op}
 use Rattle.dpe_vaults.specs.declared.call.Op.TheVariants.{Put, Get, Remove, Names}
 use Rattle.dpe_vaults.specs.declared.reply.VaultReply.{VaultReply}
 use Rattle.dpe_vaults.specs.Calls.{Call}
-use Rattle.dpe_vaults.specs.Named.{named, has_place, AreOrdered}
-use Rattle.dpe_vaults.specs.Kept.{Pair, after_by, after_one, after, vault_reply, reply_to, calls_at}
+use Rattle.dpe_vaults.specs.Named.{Named, named, has_place, AreOrdered}
+use Rattle.dpe_vaults.specs.Kept.{Pair, after_by, after_one, after, kept, vault_reply, reply_to, calls_at}
 use Rattle.dpe_vaults.specs.Laws.{replies_at, EachAlone, KeptInOrder}
 use Rattle.dpe_vaults.proofs.Names.{put_ordered, without_ordered}
 use Rattle.dpe_vaults.proofs.Held.{own_more, other_more}

@@ -1,10 +1,10 @@
 -- Bytes have one status.
-use Rattle.std.proofs.Common.{◌≡◌, ℕ, suc, ◌≤◌, List, [], ◌∷◌, ◌++◌, length, Option, Some, None, ◌⊎◌, inl, inr, refl, sym, ap, subst, ◌∙◌, append_assoc, arith}
+use Rattle.std.proofs.Common.{◌≡◌, ◌≢◌, ℕ, suc, ◌≤◌, List, [], ◌∷◌, ◌++◌, length, Option, Some, None, ◌⊎◌, inl, inr, refl, sym, ap, subst, ◌∙◌, append_assoc, append-nil, arith}
 use Rattle.std.specs.Fmt.{decimal}
 use Rattle.std.proofs.lemmas.Fmt.{decimal_injective}
 use Rattle.std.proofs.lemmas.List.{length-append}
 use Rattle.std.specs.Io.KnownBytes.{Consumes}
-use Rattle.dpe_vaults.specs.Calls.{Call}
+use Rattle.dpe_vaults.specs.Calls.{Call, IsCall}
 use Rattle.dpe_vaults.specs.Items.{item_bytes, all_bytes, AreCalls, BeginsNoItem}
 use Rattle.dpe_vaults.specs.Runs.{IsRunStatus, Ran, IsTail, LeadsTo}
 use Rattle.dpe_vaults.specs.Words.{AskFor}

@@ -1,7 +1,8 @@
 -- Lists under names, searched and changed at one place.
-use Rattle.std.proofs.Common.{◌≡◌, ℕ, Bool, true, false, cond, List, [], ◌∷◌, ◌++◌, Some, None, Ordering, Less, Equal, Greater, is_eq, bytes_eq, refl, sym, ap, subst, ◌∙◌}
+use Rattle.std.proofs.Common.{◌≡◌, ℕ, Bool, true, false, cond, List, [], ◌∷◌, ◌++◌, length, Option, Some, None, Ordering, Less, Equal, Greater, nat_cmp, is_eq, bytes_eq, refl, sym, ap, subst, ◌∙◌, true≢false, arith}
 use Rattle.std.specs.List.{AllByRecursion}
 use Rattle.std.specs.Ordering.{ordering_reverse}
+use Rattle.std.specs.Cmp.Lexicographic.{slice_cmp}
 use Rattle.std.proofs.lemmas.Cmp.{nat_list_cmp_total, tied_itself}
 use Rattle.std.proofs.lemmas.Map.Text.{is_eq-slice_cmp}
 use Rattle.std.proofs.lemmas.Slice.Eq.{bytes_eq-Decides}
@@ -191,15 +192,13 @@ all_at P (n ∷ ns) row behind all = all_at P ns row behind all.1
 -- the rows before one with a name come before it
 pub before_same : (before : List (Named ℕ)) (row : Named ℕ) (behind : List (Named ℕ)) (name : List ℕ) → AreOrdered (before ++ row ∷ behind) → row.name ≡ name → AllBefore before name
 before_same [] row behind name ordered same = tt
-before_same (n ∷ ns) row behind name ordered same = (
-  subst (λ (m : List ℕ). name_order n.name m ≡ Less) same (all_at (λ m. name_order n.name m.name ≡ Less) ns row behind ordered.0),
-  before_same ns row behind name ordered.1 same,
-)
+before_same (n ∷ ns) row behind name ordered same =
+    (subst (λ (m : List ℕ). name_order n.name m ≡ Less) same (all_at (λ m. name_order n.name m.name ≡ Less) ns row behind ordered.0),
+    before_same ns row behind name ordered.1 same)
 
 -- the rows up to one that comes before a name come before it
 pub before_less : (before : List (Named ℕ)) (row : Named ℕ) (behind : List (Named ℕ)) (name : List ℕ) → AreOrdered (before ++ row ∷ behind) → name_order row.name name ≡ Less → AllBefore (before ++ row ∷ []) name
 before_less [] row behind name ordered less = (less, tt)
-before_less (n ∷ ns) row behind name ordered less = (
-  nat_list_cmp_total.trans n.name row.name name (all_at (λ m. name_order n.name m.name ≡ Less) ns row behind ordered.0) less,
-  before_less ns row behind name ordered.1 less,
-)
+before_less (n ∷ ns) row behind name ordered less =
+    (nat_list_cmp_total.trans n.name row.name name (all_at (λ m. name_order n.name m.name ≡ Less) ns row behind ordered.0) less,
+    before_less ns row behind name ordered.1 less)

@@ -1,8 +1,9 @@
 -- What a search in a table finds, and what is changed there.
-use Rattle.std.proofs.Common.{◌≡◌, ℕ, zero, suc, ◌+◌, ◌<◌, ◌≤◌, Bool, true, false, cond, List, [], ◌∷◌, ◌++◌, length, take, drop, get_or, set, Option, Some, None, Less, Greater, refl, sym, ap, subst, ◌∙◌, append_assoc, append-nil, take-append-drop, arith}
+use Rattle.std.proofs.Common.{◌≡◌, ℕ, zero, suc, ◌+◌, ◌<◌, ◌≤◌, Bool, true, false, cond, List, [], ◌∷◌, ◌++◌, length, map, take, drop, get_or, set, Option, Some, None, Ordering, Less, Equal, Greater, refl, sym, ap, subst, ◌∙◌, append_assoc, append-nil, take-append-drop, arith}
 use Rattle.std.specs.Prelude.{◌||◌, ◌==◌, is_some, nat_lt, insert, remove}
 use Rattle.std.specs.List.{refill}
 use Rattle.std.proofs.lemmas.Bool.Decides.{nat_tests}
+use Rattle.std.specs.Ordering.{ordering_reverse}
 use Rattle.std.proofs.lemmas.List.{map-append, length-map, length-append, length-take, take-map, drop_more, take_more, take_at, drop_at, set_at, map-set, get_or_at, length-set, drop_all}
 use Rattle.dpe_vaults.specs.declared.table.Row.{Row}
 use Rattle.dpe_vaults.specs.Named.{Named, named, name_order, name_limit, found, without, placed, has_place, AreOrdered}

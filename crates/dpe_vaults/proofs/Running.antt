@@ -3,12 +3,13 @@ use Rattle.std.proofs.Common.{◌≡◌, ◌≢◌, ℕ, ◌+◌, ◌<◌, ◌�
 use Rattle.std.specs.Io.KnownBytes.{Consumes, Appends, Keeps, IsAtEnd}
 use Rattle.std.proofs.KnownBytes.{Consumes-nil, Consumes-trans, Appends-nil, Appends-trans, Appends-kept}
 use Rattle.std.proofs.lemmas.List.{length-append}
+use Rattle.dpe_desk.specs.Entries.{entry}
 use Rattle.dpe_text.specs.Writing.{AppendsFront}
 use Rattle.dpe_text.proofs.Fronts.{then_front}
 use Rattle.dpe_vaults.specs.declared.item.Taken.{Taken}
 use Rattle.dpe_vaults.specs.declared.item.Taken.TheVariants.{Whole, End, NoItem, Fault}
 use Rattle.dpe_vaults.specs.Calls.{Call, IsCall}
-use Rattle.dpe_vaults.specs.Kept.{calls_of, reply_to}
+use Rattle.dpe_vaults.specs.Kept.{Called, calls_of, reply_to}
 use Rattle.dpe_vaults.specs.Views.{VaultView, with_entry, next_entry}
 use Rattle.dpe_vaults.specs.Items.{item_bytes, all_bytes, AreCalls, BeginsNoItem, LeavesNoItem, reply_bytes, answers_after, answers, ReadsEnd}
 use Rattle.dpe_vaults.specs.Runs.{IsBehind, Ran}

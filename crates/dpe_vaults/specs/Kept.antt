@@ -1,5 +1,5 @@
 -- What a vault keeps, what it replies, and which lists of calls and replies are legal.
-use Rattle.std.specs.Prelude.{ℕ, ◌≡◌, ◌==◌, ◌&&◌, is_some, if◌then◌else◌, List, [], ◌∷◌, ◌++◌, length, map, filter, flat_map, Option, Some, None}
+use Rattle.std.specs.Prelude.{ℕ, ◌≡◌, Bool, ◌==◌, ◌&&◌, is_some, if◌then◌else◌, List, [], ◌∷◌, ◌++◌, length, map, filter, flat_map, Option, Some, None}
 use Rattle.dpe_box.specs.Sealed.{has_form}
 use Rattle.dpe_desk.specs.declared.sequential.Entry.{Entry}
 use Rattle.dpe_vaults.specs.declared.call.Op.{Op}

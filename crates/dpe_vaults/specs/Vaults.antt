@@ -3,6 +3,7 @@ use Rattle.std.specs.Prelude.{ℕ, ◌<◌, ◌≡◌, List, [], length, get_or}
 use Rattle.dpe_vaults.specs.Named.{Named}
 use Rattle.dpe_vaults.specs.Kept.{Called, Legal, calls_of, calls_at, kept}
 use Rattle.dpe_vaults.specs.Tables.{boxed, AreStored}
+use Rattle.dpe_vaults.specs.Views.{VaultView}
 use Rattle.dpe_vaults.specs.declared.vault.Vault.TheInside.{Inside}
 
 -- the rows of a locality are what its calls leave

@@ -1,6 +1,6 @@
-use Rattle.std.proofs.Common.{◌≡◌, ℕ, ◌-◌, ◌≤◌, List, ◌++◌, length, take, get_or, w16, rules, refl, ap, sym, subst, ◌∙◌, arith}
+use Rattle.std.proofs.Common.{◌≡◌, ℕ, ◌-◌, ◌<◌, ◌≤◌, List, ◌++◌, length, take, get_or, w16, rules, refl, ap, sym, subst, ◌∙◌, arith}
 use Rattle.std.specs.Int.{from_be_bytes}
-use Rattle.dpe_vaults.specs.Calls.{Call, IsCall, least_name, most_name}
+use Rattle.dpe_vaults.specs.Calls.{Call, IsCall, least_name, most_name, most_sealed}
 use Rattle.dpe_vaults.specs.Items.{item_bytes, NeedsMore}
 use Rattle.dpe_vaults.proofs.ItemParts.{wrong_length, short_sealed, all_length, is_whole, two_list, told_range, most_sealed_within, most_name_within}
 use Rattle.dpe_vaults.proofs.item.judge.Goals as goal

@@ -1,4 +1,4 @@
-use Rattle.std.proofs.Common.{take, drop, arith}
+use Rattle.std.proofs.Common.{take, drop, length, arith}
 use Rattle.std.proofs.lemmas.List.{length-take, length-drop}
 use Rattle.dpe_vaults.proofs.ItemReads.{reading_none, reading_whole, reading_wrong, reading_failed, reading_cut, reading_more, rose_since}
 use Rattle.dpe_vaults.proofs.item.read_item.Goals as goal

@@ -1,4 +1,4 @@
-use Rattle.std.proofs.Common.{ℕ, List, cond, is_some, refl, ap, sym, ◌∙◌}
+use Rattle.std.proofs.Common.{◌≡◌, ℕ, List, Bool, cond, is_some, refl, ap, sym, ◌∙◌}
 use Rattle.dpe_vaults.specs.declared.call.Op.TheVariants.{Put, Get, Remove, Names}
 use Rattle.dpe_vaults.specs.Kept.{box_or_none}
 use Rattle.dpe_vaults.specs.Named.{found}

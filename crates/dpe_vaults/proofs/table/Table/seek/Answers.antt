@@ -1,4 +1,4 @@
-use Rattle.std.proofs.Common.{◌≡◌, ℕ, ◌+◌, ◌-◌, ◌/◌, ◌<◌, List, Less, Equal, Greater, length, get_or, refl, ap, sym, subst, ◌∙◌, arith}
+use Rattle.std.proofs.Common.{◌≡◌, ℕ, ◌+◌, ◌-◌, ◌/◌, ◌<◌, List, Less, Equal, Greater, Ordering, length, get_or, refl, ap, sym, subst, ◌∙◌, arith}
 use Rattle.dpe_vaults.specs.declared.table.Row.{Row}
 use Rattle.dpe_vaults.specs.Named.{Named, name_order, AreOrdered}
 use Rattle.dpe_vaults.specs.Tables.{rows_of, StandsAt, BelongsAt}
