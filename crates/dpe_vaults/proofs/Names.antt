@@ -192,13 +192,15 @@ all_at P (n ∷ ns) row behind all = all_at P ns row behind all.1
 -- the rows before one with a name come before it
 pub before_same : (before : List (Named ℕ)) (row : Named ℕ) (behind : List (Named ℕ)) (name : List ℕ) → AreOrdered (before ++ row ∷ behind) → row.name ≡ name → AllBefore before name
 before_same [] row behind name ordered same = tt
-before_same (n ∷ ns) row behind name ordered same =
-    (subst (λ (m : List ℕ). name_order n.name m ≡ Less) same (all_at (λ m. name_order n.name m.name ≡ Less) ns row behind ordered.0),
-    before_same ns row behind name ordered.1 same)
+before_same (n ∷ ns) row behind name ordered same = (
+  subst (λ (m : List ℕ). name_order n.name m ≡ Less) same (all_at (λ m. name_order n.name m.name ≡ Less) ns row behind ordered.0),
+  before_same ns row behind name ordered.1 same,
+)
 
 -- the rows up to one that comes before a name come before it
 pub before_less : (before : List (Named ℕ)) (row : Named ℕ) (behind : List (Named ℕ)) (name : List ℕ) → AreOrdered (before ++ row ∷ behind) → name_order row.name name ≡ Less → AllBefore (before ++ row ∷ []) name
 before_less [] row behind name ordered less = (less, tt)
-before_less (n ∷ ns) row behind name ordered less =
-    (nat_list_cmp_total.trans n.name row.name name (all_at (λ m. name_order n.name m.name ≡ Less) ns row behind ordered.0) less,
-    before_less ns row behind name ordered.1 less)
+before_less (n ∷ ns) row behind name ordered less = (
+  nat_list_cmp_total.trans n.name row.name name (all_at (λ m. name_order n.name m.name ≡ Less) ns row behind ordered.0) less,
+  before_less ns row behind name ordered.1 less,
+)
