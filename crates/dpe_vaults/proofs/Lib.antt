@@ -1,0 +1,10 @@
+mod Names
+mod Boxed
+mod Held
+mod Placing
+mod ItemParts
+mod ItemReads
+mod Running
+mod Leading
+mod Lawful
+mod OneWord

@@ -1,0 +1,12 @@
+pub mod Calls
+pub mod Named
+pub mod Kept
+pub mod Views
+pub mod Storing
+pub mod Tables
+pub mod Vaults
+pub mod Shared
+pub mod Words
+pub mod Items
+pub mod Runs
+pub mod Laws
