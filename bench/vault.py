@@ -1,8 +1,8 @@
 #!/usr/bin/env python3
 """Compares a put and a get among 256 names of a vault with one among 1, in instructions and in time.
 
-Run it at the top of the repository after `rt run` in crates/dpe_vault. Both runs of a pair have the same number of items
-and of entries, so what is compared is the difference of many calls and none, once the names are there.
+Run it at the top of the repository after `rt run` in crates/dpe_vault. Both runs of a pair have room for the
+same number of calls, and begin with the same puts: what is compared is the difference of many calls and none behind them.
 """
 import tempfile
 
