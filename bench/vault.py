@@ -1,17 +1,16 @@
 #!/usr/bin/env python3
-"""Compares a put and a get among 256 names of a vault with one among 1, in instructions and in time.
+"""Compares a put and a get among 256 names of a vault with one among 1, in instructions.
 
 Run it at the top of the repository after `rt run` in crates/dpe_vault. Both runs of a pair have room for the
 same number of calls, and begin with the same puts: what is compared is the difference of many calls and none behind them.
 """
 import tempfile
 
-from measuring import callgrind, least
+from measuring import callgrind
 
 PROGRAM = "crates/dpe_vault/out/dpe_vault"
 ENTRIES = "4096"
 CALLS = 3072
-ROUNDS = 7
 PUT, GET = 0, 1
 # the shortest box: its version, zeros for salt and masks, no data, zeros for the tag
 BOX = bytes([1]) + bytes(84)
@@ -36,24 +35,22 @@ def tape(count, op, calls):
     return b"".join(first + more)
 
 
+def instructions(count, op, calls, path):
+    """The instructions of a run that puts so many names and then makes so many calls."""
+    with open(path, "wb") as file:
+        file.write(tape(count, op, calls))
+    with open(path, "rb") as file:
+        return callgrind([PROGRAM, ENTRIES], stdin=file)[0]
+
+
 def main():
-    for kind, op in (("put", PUT), ("get", GET)):
-        counts, times = {}, {}
-        with tempfile.TemporaryDirectory() as folder:
-            runs = {}
-            for count in (1, 256):
-                for calls in (0, CALLS):
-                    path = f"{folder}/{count}-{calls}"
-                    with open(path, "wb") as file:
-                        file.write(tape(count, op, calls))
-                    with open(path, "rb") as file:
-                        counts[count, calls] = callgrind([PROGRAM, ENTRIES], stdin=file)[0]
-                    runs[count, calls] = ([PROGRAM, ENTRIES], path)
-            times = least(runs, ROUNDS)
-        one, many = ((counts[count, CALLS] - counts[count, 0]) / CALLS for count in (1, 256))
-        fast, slow = ((times[count, CALLS] - times[count, 0]) / CALLS * 1e9 for count in (1, 256))
-        print(f"{kind}: {many:.0f} instructions among 256 names, {one:.0f} among 1, ratio {many / one:.3f}")
-        print(f"{kind}: {slow:.0f} ns among 256 names, {fast:.0f} ns among 1, ratio {slow / fast:.3f}")
+    with tempfile.TemporaryDirectory() as folder:
+        for kind, op in (("put", PUT), ("get", GET)):
+            one, many = (
+                (instructions(count, op, CALLS, f"{folder}/items") - instructions(count, op, 0, f"{folder}/items")) / CALLS
+                for count in (1, 256)
+            )
+            print(f"{kind}: {many:.0f} instructions among 256 names, {one:.0f} among 1, ratio {many / one:.3f}")
 
 
 if __name__ == "__main__":
