@@ -28,7 +28,7 @@ pub const MANUAL: Manual = Manual {
         },
         Cause {
             status: 14,
-            sentence: "a socket failed, as printed (line 0: it couldn't be opened; else the line's command may have been executed): see that the server runs, that the path is right, and that you may write to it",
+            sentence: "a socket failed, as printed (line 0: it couldn't be opened; else the line's command may have been executed): see that the server runs and has room for more commands, that the path is right, and that you may write to it",
         },
         Cause {
             status: 15,
