@@ -3,7 +3,7 @@ use Rattle.std.proofs.Common.{◌≡◌, ℕ, ◌≤◌, List, [], length, appen
 use Rattle.std.specs.Prelude.{IfErr}
 use Rattle.std.specs.Io.KnownBytes.{Consumes, Appends}
 use Rattle.dpe_link.specs.Frames.{frame}
-use Rattle.dpe_script.specs.Acts.{Act}
+use Rattle.dpe_grammar.specs.Acts.{Act}
 use Rattle.dpe_script.specs.Script.{Line}
 use Rattle.dpe_script.specs.Meaning.{Values, sent_payload}
 use Rattle.dpe_io.specs.Told.{Told, KeepsCounts}

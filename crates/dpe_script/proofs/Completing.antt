@@ -10,7 +10,7 @@ use Rattle.dpe_messages.proofs.ReplyLaws.{sendable}
 use Rattle.dpe_messages.proofs.ReplySizes.{reply_fits}
 use Rattle.dpe_messages.specs.declared.reply_reader.Asked.{Asked}
 use Rattle.dpe_io.specs.Told.{Kind, IfTold}
-use Rattle.dpe_script.specs.Acts.{Act}
+use Rattle.dpe_grammar.specs.Acts.{Act}
 use Rattle.dpe_script.specs.Script.{Line}
 use Rattle.dpe_script.specs.Meaning.{Answer, payload, response, IsAnswerTo, asked_of, answer_payload, got}
 use Rattle.dpe_script.specs.CodeScript.{line_of, lines_are}

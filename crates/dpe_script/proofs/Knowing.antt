@@ -4,7 +4,7 @@ use Rattle.std.specs.Prelude.{bytes_eq, if◌then◌else◌, All}
 use Rattle.std.proofs.lemmas.List.Folds.{list_any-append}
 use Rattle.std.proofs.lemmas.List.Elements.{All-append}
 use Rattle.std.proofs.lemmas.Slice.Eq.{bytes_eq-Decides}
-use Rattle.dpe_script.specs.Acts.{Act, act_of}
+use Rattle.dpe_grammar.specs.Acts.{Act, act_of}
 use Rattle.dpe_script.specs.Names.{Names, HasNames, is_among, is_known, with_name, introduced, fresh_of, keep_of, sealed_of}
 use Rattle.dpe_script.specs.CodeScript.{IsLineKnown}
 use Rattle.dpe_script.specs.declared.script.Line as code_line

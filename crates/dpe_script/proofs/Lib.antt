@@ -1,6 +1,4 @@
 pub mod Lists
-pub mod Numbers
-pub mod Spelling
 pub mod Scripts
 pub mod Places
 pub mod Knowing

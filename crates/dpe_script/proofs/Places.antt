@@ -5,7 +5,7 @@ use Rattle.std.specs.Option.{option_map, option_and_then, unwrap_or}
 use Rattle.std.specs.Prelude.{slice_get, bytes_eq}
 use Rattle.std.specs.Prelude.{if◌then◌else◌}
 use Rattle.std.specs.Borrow.{Bor}
-use Rattle.dpe_script.specs.Values.{texts}
+use Rattle.dpe_grammar.specs.Values.{texts}
 use Rattle.dpe_script.proofs.Lists.{texts_step}
 use Rattle.dpe_script.specs.CodeValues.{place_of, found, AreShort}
 
@@ -23,8 +23,12 @@ same_at d n None = refl
 same_at d n (Some i) = get_same d n i
 
 -- where each place has the default, each name does
-pub found_same : (d : List ℕ) (names : List (List ℕ)) (n : ℕ) (name : List ℕ) → found d names (replicate n d) name ≡ d
+found_same : (d : List ℕ) (names : List (List ℕ)) (n : ℕ) (name : List ℕ) → found d names (replicate n d) name ≡ d
 found_same d names n name = same_at d n (place_of names name)
+
+-- the same where the values are so many defaults
+pub found_in : (d : List ℕ) (names : List (List ℕ)) (n : ℕ) (values : List (List ℕ)) (name : List ℕ) → values ≡ replicate n d → found d names values name ≡ d
+found_in d names n values name all = ap (λ (vs : List (List ℕ)). found d names vs name) all ∙ found_same d names n name
 
 -- boxes of no bytes are short
 pub empty_short : (n : ℕ) → AreShort (replicate n [])

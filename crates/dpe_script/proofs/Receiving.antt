@@ -5,7 +5,7 @@ use Rattle.dpe_io.specs.Told.{Told}
 use Rattle.dpe_link.specs.Reading.{TakesNoFrame, FaultCause}
 use Rattle.dpe_link.specs.declared.read.FrameFault.{FrameFault}
 use Rattle.dpe_link.specs.declared.read.FrameFault.TheVariants.{Cut, TooLong, ReadFault}
-use Rattle.dpe_script.specs.Acts.{Act}
+use Rattle.dpe_grammar.specs.Acts.{Act}
 use Rattle.dpe_script.specs.Run.{ended, too_long, HasNoFrame, CausedBy, cause_at}
 use Rattle.dpe_script.specs.declared.run.Cause.{Cause}
 use Rattle.dpe_script.specs.declared.run.Cause.TheVariants.{Reply}

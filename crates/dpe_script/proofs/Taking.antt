@@ -1,7 +1,7 @@
 -- What the names have once a command's reply was taken.
 use Rattle.std.proofs.Common.{◌≡◌, ℕ, List, Option, ◌∙◌}
 use Rattle.dpe_messages.specs.Replies.{Response}
-use Rattle.dpe_script.specs.Acts.{Act}
+use Rattle.dpe_grammar.specs.Acts.{Act}
 use Rattle.dpe_script.specs.Names.{fresh_of, keep_of, sealed_of}
 use Rattle.dpe_script.specs.Meaning.{taken, new_handle, kept_handle, made_bytes, after, response}
 use Rattle.dpe_script.specs.CodeValues.{handle_in, box_in, handles_of, boxes_of, values_of}

@@ -6,7 +6,7 @@ use Rattle.std.specs.Io.KnownBytes.{IsAtEnd}
 use Rattle.std.specs.Borrow.{Bor}
 use Rattle.std.proofs.lemmas.Bool.Decides.{nat_tests}
 use Rattle.dpe_io.specs.Told.{Kind}
-use Rattle.dpe_script.specs.Values.{texts}
+use Rattle.dpe_grammar.specs.Values.{texts}
 use Rattle.dpe_script.specs.Names.{no_names}
 use Rattle.dpe_script.specs.Script.{Line, Script, right, bad_line, max_script, script_of, script_from, lines_of}
 use Rattle.dpe_io.specs.Told.{Told}

@@ -1,7 +1,7 @@
 -- What is made of a payload that came back for a line.
 use Rattle.std.specs.Prelude.{◌≡◌, ℕ, List, ◌++◌, codes}
 use Rattle.std.specs.Fmt.{decimal}
-use Rattle.dpe_script.specs.Acts.{Act}
+use Rattle.dpe_grammar.specs.Acts.{Act}
 use Rattle.dpe_script.specs.Script.{Line}
 use Rattle.dpe_script.specs.Meaning.{Answer, IsAnswerTo, asked_of, answer_payload, answer_text, said_of, after}
 use Rattle.dpe_script.specs.CodeValues.{values_of}

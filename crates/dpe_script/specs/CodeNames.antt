@@ -1,5 +1,5 @@
 -- The names and lines of a script as the code has them.
-use Rattle.dpe_script.specs.Values.{texts}
+use Rattle.dpe_grammar.specs.Values.{texts}
 use Rattle.dpe_script.specs.Names.{Names}
 use Rattle.dpe_script.specs.declared.names.Names as code
 

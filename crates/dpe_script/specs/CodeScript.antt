@@ -1,7 +1,7 @@
 -- The lines of a script as the code has them, and what reading one makes of a script.
 use Rattle.std.specs.Prelude.{◌≡◌, ℕ, List, [], ◌∷◌, ◌++◌, map, Some, ⊤, ◌<◌, All}
-use Rattle.dpe_script.specs.Acts.{act_of, IsInRange}
-use Rattle.dpe_script.specs.Grammar.{asking_of}
+use Rattle.dpe_grammar.specs.Acts.{act_of, IsInRange}
+use Rattle.dpe_grammar.specs.Grammar.{asking_of}
 use Rattle.dpe_script.specs.Names.{Names, HasNames}
 use Rattle.dpe_script.specs.Script.{Line, Step, skip, ask, stop, step, asked, Script, bad_line}
 use Rattle.dpe_script.specs.CodeNames.{names_of}

@@ -1,7 +1,7 @@
 -- The values of names as the code has them: place by place beside the names.
 use Rattle.std.specs.Prelude.{◌≡◌, ℕ, suc, List, [], ◌∷◌, length, replicate, slice_get, Option, Some, None, if◌then◌else◌, option_map, option_and_then, unwrap_or, bytes_eq, All, ◌≤◌}
 use Rattle.std.specs.Borrow.{Bor}
-use Rattle.dpe_script.specs.Values.{texts}
+use Rattle.dpe_grammar.specs.Values.{texts}
 use Rattle.dpe_script.specs.Meaning.{Values}
 use Rattle.dpe_script.specs.declared.values.Values as code
 

@@ -1,7 +1,3 @@
-pub mod Values
-pub mod Options
-pub mod Acts
-pub mod Grammar
 pub mod Names
 pub mod CodeNames
 pub mod Script

@@ -8,7 +8,7 @@ use Rattle.dpe_messages.specs.CommandRows.{command_payload}
 use Rattle.dpe_messages.specs.Replies.{Response, handle, derived, made, code_of, reply_payload, IsRefusal, IsAnswer}
 use Rattle.dpe_messages.specs.declared.reply_reader.Asked.{Asked}
 use Rattle.dpe_messages.specs.declared.reply_reader.Asked.TheVariants as asked
-use Rattle.dpe_script.specs.Acts.{Act, profile, initialize, derive, sign, seal, unseal, rotate, destroy, raw, DeriveLine}
+use Rattle.dpe_grammar.specs.Acts.{Act, profile, initialize, derive, sign, seal, unseal, rotate, destroy, raw, DeriveLine}
 use Rattle.dpe_script.specs.Names.{fresh_of, keep_of, sealed_of}
 use Rattle.dpe_script.specs.Script.{Line}
 

@@ -1,7 +1,7 @@
 -- The names of a script: those that a command uses, and those that it introduces.
 use Rattle.std.specs.Prelude.{◌≡◌, ℕ, ◌+◌, Bool, true, ◌&&◌, List, [], ◌∷◌, ◌++◌, length, Option, Some, None, if◌then◌else◌, bytes_eq}
 use Rattle.std.specs.List.{list_any}
-use Rattle.dpe_script.specs.Acts.{Act, initialize, derive, sign, seal, unseal, rotate, destroy}
+use Rattle.dpe_grammar.specs.Acts.{Act, initialize, derive, sign, seal, unseal, rotate, destroy}
 
 -- the handle's name that a command uses
 abbrev pub old_of : Act → Option (List ℕ)

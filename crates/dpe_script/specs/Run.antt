@@ -8,7 +8,7 @@ use Rattle.dpe_link.specs.declared.read.FrameFault.TheVariants.{Cut, TooLong, Re
 use Rattle.dpe_io.specs.Causes.{Rose}
 use Rattle.dpe_io.specs.Told.{Told, KeepsCounts}
 pub use Rattle.dpe_text.specs.Writing.{AppendsFront}
-use Rattle.dpe_script.specs.Acts.{Act}
+use Rattle.dpe_grammar.specs.Acts.{Act}
 use Rattle.dpe_script.specs.Script.{Line}
 use Rattle.dpe_script.specs.Meaning.{Values, Answer, IsAnswerTo, asked_of, answer_payload, sent_payload, said_of, after, sent, got, said}
 use Rattle.dpe_script.specs.Answered.{Answers, IsNoAnswer}

@@ -2,9 +2,9 @@
 use Rattle.std.specs.Prelude.{ℕ, ◌==◌, ◌+◌, Bool, ◌||◌, ◌&&◌, nat_lt, nat_le, List, [], ◌∷◌, length, slice_index, Option, Some, None, if◌then◌else◌}
 use Rattle.std.specs.List.{slice_split}
 use Rattle.std.specs.Str.{is_utf8}
-use Rattle.dpe_script.specs.Values.{words_of, line_feed}
-use Rattle.dpe_script.specs.Acts.{Act}
-use Rattle.dpe_script.specs.Grammar.{Asking, asking_in}
+use Rattle.dpe_grammar.specs.Values.{words_of, line_feed}
+use Rattle.dpe_grammar.specs.Acts.{Act}
+use Rattle.dpe_grammar.specs.Grammar.{Asking, asking_in}
 use Rattle.dpe_script.specs.Names.{Names, no_names, count, knows, introduced}
 
 -- the limits: the bytes of a script and of a line, and the names

@@ -3,16 +3,16 @@ ghost use Rattle.std.specs.Prelude.{◌≡◌, ◌+◌, ◌*◌, ◌≤◌, ◌+
 ghost use Rattle.std.specs.Option.{option_map};
 ghost use Rattle.std.specs.Fmt.{decimal};
 ghost use Rattle.dpe_messages.specs.Replies.{response_of, code_of as response_code};
-ghost use Rattle.dpe_script.specs.Acts.{act_of};
+ghost use Rattle.dpe_grammar.specs.Acts.{act_of};
 ghost use Rattle.dpe_script.specs.Meaning.{asked_of as command_of, answer_text, made_bytes, shown, response, payload as raw_payload};
 ghost use Rattle.dpe_script.specs.CodeNames.{names_of};
 ghost use Rattle.dpe_script.specs.CodeScript.{line_of, IsLineKnown};
 ghost use Rattle.dpe_script.specs.CodeValues.{IsReady};
 ghost use Rattle.dpe_script.specs.Answered.{answer_line, Takes, IsNoAnswer};
 
-use crate::act::Act;
 use crate::script::Line;
 use crate::values::{Values, made_bytes_of};
+use dpe_grammar::Act;
 use dpe_messages::{Asked, Reply, read_reply};
 use dpe_text::Text;
 

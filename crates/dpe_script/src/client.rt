@@ -10,7 +10,7 @@ ghost use Rattle.dpe_script.specs.CodeScript.{AreBelow, AreKnown, IsLineInRange,
 ghost use Rattle.dpe_script.specs.CodeValues.{IsReady, values_of};
 ghost use Rattle.dpe_script.specs.Meaning.{no_values};
 ghost use Rattle.dpe_script.specs.Script.{Line as ScriptLine, right, bad_line, max_script, script_of};
-ghost use Rattle.dpe_script.specs.Values.{texts};
+ghost use Rattle.dpe_grammar.specs.Values.{texts};
 
 use crate::end::End;
 use crate::links::run_on_links;

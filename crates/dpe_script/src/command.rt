@@ -2,13 +2,12 @@
 ghost use Rattle.std.specs.Prelude.{◌≡◌, ◌≤◌, length, take, []};
 ghost use Rattle.dpe_messages.specs.Commands.{configuration_of};
 ghost use Rattle.dpe_messages.specs.CommandRows.{IsShort as IsConfigShort};
-ghost use Rattle.dpe_script.specs.Acts.{act_of, derive_line, sign_line, seal_line, unseal_line, IsInRange, IsDeriveInRange, IsShort, config_of, derive as a_derive, sign as a_sign, seal as a_seal, unseal as an_unseal, rotate, destroy};
+ghost use Rattle.dpe_grammar.specs.Acts.{act_of, derive_line, sign_line, seal_line, unseal_line, IsInRange, IsDeriveInRange, IsShort, config_of, derive as a_derive, sign as a_sign, seal as a_seal, unseal as an_unseal, rotate, destroy};
 ghost use Rattle.dpe_script.specs.Meaning.{sent_payload};
 ghost use Rattle.dpe_script.specs.CodeValues.{values_of, HasShortBoxes};
 
-use crate::act::{Act, Config, Derive, Seal, Sign, Unseal};
-use crate::value::decode;
 use crate::values::Values;
+use dpe_grammar::{Act, Config, Derive, Seal, Sign, Unseal, decode};
 use dpe_messages::{Command, write_command};
 
 // The configuration, a descriptor being decoded into the room.

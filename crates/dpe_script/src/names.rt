@@ -1,12 +1,12 @@
 //! The names of a script: those that a command uses, and those that it introduces.
 ghost use Rattle.std.specs.Prelude.{◌≡◌, ◌+◌, ◌≤◌, OnOk, length, Some, None, vec_len, nat_lt};
 ghost use Rattle.std.specs.Option.{option_map};
-ghost use Rattle.dpe_script.specs.Values.{texts};
-ghost use Rattle.dpe_script.specs.Acts.{act_of};
+ghost use Rattle.dpe_grammar.specs.Values.{texts};
+ghost use Rattle.dpe_grammar.specs.Acts.{act_of};
 ghost use Rattle.dpe_script.specs.Names.{old_of as old_name, opened_of as opened_name, fresh_of as fresh_name, keep_of as keep_name, sealed_of as sealed_name, is_among as is_name_among, is_known as is_name_known, with_name, knows as knows_names, introduced, no_names, count};
 ghost use Rattle.dpe_script.specs.CodeNames.{names_of};
 
-use crate::act::Act;
+use dpe_grammar::Act;
 use std::alloc::{AllocError, Global};
 
 // The handle's name that a command uses.

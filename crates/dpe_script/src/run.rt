@@ -3,7 +3,7 @@ ghost use Rattle.std.specs.Prelude.{◌≡◌, ◌≢◌, ◌+◌, ◌<◌, ◌�
 ghost use Rattle.std.specs.Io.KnownBytes.{Appends, Consumes};
 ghost use Rattle.dpe_io.specs.Causes.{HasCause};
 ghost use Rattle.dpe_link.specs.Frames.{frame};
-ghost use Rattle.dpe_script.specs.Acts.{Act};
+ghost use Rattle.dpe_grammar.specs.Acts.{Act};
 ghost use Rattle.dpe_script.specs.Meaning.{no_values};
 ghost use Rattle.dpe_script.specs.CodeNames.{names_of};
 ghost use Rattle.dpe_script.specs.CodeScript.{line_of, lines_are, IsLineKnown, IsLineInRange};

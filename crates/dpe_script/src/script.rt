@@ -3,17 +3,16 @@ ghost use Rattle.std.specs.Prelude.{◌≡◌, ◌+◌, ◌<◌, ◌≤◌, ◌^
 ghost use Rattle.std.specs.Option.{option_map};
 ghost use Rattle.std.specs.List.{slice_split};
 ghost use Rattle.std.specs.Str.{is_utf8};
-ghost use Rattle.dpe_script.specs.Values.{texts, words_of};
-ghost use Rattle.dpe_script.specs.Acts.{act_of, IsInRange};
-ghost use Rattle.dpe_script.specs.Grammar.{asking_in, asking_of};
+ghost use Rattle.dpe_grammar.specs.Values.{texts, words_of};
+ghost use Rattle.dpe_grammar.specs.Acts.{act_of, IsInRange};
+ghost use Rattle.dpe_grammar.specs.Grammar.{asking_in, asking_of};
 ghost use Rattle.dpe_script.specs.Script.{is_skipped as is_line_skipped, lines_of, step, asked, script_from, script_of, right};
 ghost use Rattle.dpe_script.specs.Names.{no_names};
 ghost use Rattle.dpe_script.specs.CodeNames.{names_of};
 ghost use Rattle.dpe_script.specs.CodeScript.{lines_are, HasForm, IsFormInRange, IsFormBelow, IsLineInRange, AreBelow, AreKnown, IsAdded, IsBad, IsBadScript};
 
-use crate::act::Act;
-use crate::grammar::{Asking, read_asking};
 use crate::names::Names;
+use dpe_grammar::{Act, Asking, read_asking};
 use std::alloc::{AllocError, Global};
 
 /// The most bytes of a script, and of a line without its line feed.

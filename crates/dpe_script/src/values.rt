@@ -1,16 +1,16 @@
 //! The values of a script's names: the bytes of handles and of boxes.
 ghost use Rattle.std.specs.Prelude.{◌≡◌, ◌≤◌, ◌<◌, ◌++◌, true, IfNone, ℕ, List, IfOk, OnErr, IfSome, length, Some, None, [], replicate};
-ghost use Rattle.dpe_script.specs.Values.{texts};
+ghost use Rattle.dpe_grammar.specs.Values.{texts};
 ghost use Rattle.std.specs.Option.{option_map};
-ghost use Rattle.dpe_script.specs.Acts.{act_of};
+ghost use Rattle.dpe_grammar.specs.Acts.{act_of};
 ghost use Rattle.dpe_script.specs.Names.{HasNames, is_among, is_known};
 ghost use Rattle.dpe_script.specs.Meaning.{no_values, taken, new_handle, kept_handle, made_bytes, after, response};
 ghost use Rattle.dpe_script.specs.CodeValues.{place_of, handle_in, box_in, handles_of, boxes_of, values_of, IsTable, HasShortBoxes, AreShort};
 ghost use Rattle.dpe_script.specs.CodeNames.{names_of};
 ghost use Rattle.dpe_messages.specs.Replies.{response_of};
 
-use crate::act::Act;
 use crate::names::{Names, fresh_of, keep_of, sealed_of};
+use dpe_grammar::Act;
 use dpe_io::Packet;
 use dpe_messages::Reply;
 use std::alloc::{AllocError, Global};
@@ -44,7 +44,7 @@ impl<'a> Values<'a> {
         ensures table { IfOk result IsTable }
         ensures short { IfOk result HasShortBoxes }
     {
-        let handles = vec![in alloc; [0; 16]; names.handles.len()]?;
+        let handles = zero_handles(alloc, names.handles.len())?;
         let boxes = empty_boxes(alloc, names.boxes.len())?;
         Ok(Values {
             names,
@@ -79,6 +79,13 @@ impl<'a> Values<'a> {
             },
         }
     }
+}
+
+// So many handles of zeros.
+fn zero_handles(alloc: Global, count: usize) -> Result<Vec<[u8; 16]>, AllocError>
+    ensures { IfOk result (λ handles. handles.items ≡ replicate count (replicate 16 0)) }
+{
+    vec![in alloc; [0; 16]; count]
 }
 
 // So many boxes of no bytes.

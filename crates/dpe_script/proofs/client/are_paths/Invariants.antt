@@ -1,6 +1,6 @@
 use Rattle.std.proofs.Common.{◌≡◌, drop}
 use Rattle.std.specs.List.{list_all}
-use Rattle.dpe_script.specs.Values.{texts}
+use Rattle.dpe_grammar.specs.Values.{texts}
 use Rattle.dpe_script.specs.Client.{is_path}
 use Rattle.dpe_script.proofs.client.are_paths.Given as goal
 

@@ -1,4 +1,4 @@
-use Rattle.dpe_script.specs.Values.{texts}
+use Rattle.dpe_grammar.specs.Values.{texts}
 use Rattle.dpe_script.proofs.Statuses.{Ran, at_done, at_no_memory, at_no_script, at_bad, at_bad_unopened, at_link, at_reply, at_unprinted, script_fault, link_fault, out_fault, script_kept, links_kept, out_kept, has_status, is_not_two, refused, complete, unanswered}
 use Rattle.dpe_script.proofs.client.client_main.Goals as goal
 

@@ -1,5 +1,5 @@
 use Rattle.std.proofs.Common.{◌-◌, length, take, drop, refl, ap, ◌∙◌}
-use Rattle.dpe_script.specs.Values.{texts}
+use Rattle.dpe_grammar.specs.Values.{texts}
 use Rattle.dpe_script.proofs.Wording.{words_end, words_caused, words_answered, link_words}
 use Rattle.dpe_script.proofs.client.run_words.Goals as goal
 

@@ -1,5 +1,5 @@
 use Rattle.std.proofs.Common.{◌≡◌, drop}
-use Rattle.dpe_script.specs.Values.{texts}
+use Rattle.dpe_grammar.specs.Values.{texts}
 use Rattle.dpe_script.specs.Names.{is_among}
 use Rattle.dpe_script.proofs.names.is_among.Given as goal
 

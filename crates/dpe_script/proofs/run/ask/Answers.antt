@@ -1,5 +1,5 @@
 use Rattle.std.proofs.Common.{◌≤◌, take, length, length-take, arith}
-use Rattle.dpe_script.specs.Acts.{act_of}
+use Rattle.dpe_grammar.specs.Acts.{act_of}
 use Rattle.dpe_script.specs.CodeScript.{line_of}
 use Rattle.dpe_script.specs.CodeValues.{values_of}
 use Rattle.dpe_script.proofs.Asking.{unconcluded_all, unexchanged}

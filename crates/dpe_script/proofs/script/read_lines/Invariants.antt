@@ -1,6 +1,6 @@
 use Rattle.std.proofs.Common.{◌≡◌, ◌+◌, drop}
 use Rattle.std.specs.Prelude.{All}
-use Rattle.dpe_script.specs.Values.{texts}
+use Rattle.dpe_grammar.specs.Values.{texts}
 use Rattle.dpe_script.specs.Names.{no_names}
 use Rattle.dpe_script.specs.Script.{script_from}
 use Rattle.dpe_script.specs.CodeNames.{names_of}

@@ -1,6 +1,6 @@
 use Rattle.std.proofs.Common.{◌≡◌, ◌+◌, ℕ, drop}
 use Rattle.std.specs.Option.{option_map}
-use Rattle.dpe_script.specs.Values.{texts}
+use Rattle.dpe_grammar.specs.Values.{texts}
 use Rattle.dpe_script.specs.CodeValues.{place_of}
 use Rattle.dpe_script.proofs.values.place.Given as goal
 

@@ -1,5 +1,5 @@
 use Rattle.std.proofs.Common.{[], sym, arith}
-use Rattle.dpe_script.specs.Values.{texts}
+use Rattle.dpe_grammar.specs.Values.{texts}
 use Rattle.dpe_script.proofs.Settling.{found_put, among_has_place}
 use Rattle.dpe_script.proofs.values.put_box.Goals as goal
 

@@ -1,5 +1,5 @@
 use Rattle.dpe_messages.specs.Replies.{response_of}
-use Rattle.dpe_script.specs.Acts.{act_of}
+use Rattle.dpe_grammar.specs.Acts.{act_of}
 use Rattle.dpe_script.proofs.Taking.{taken_handles, taken_boxes, taken_all}
 use Rattle.dpe_script.proofs.values.Values.take.Goals as goal
 
