@@ -2,28 +2,37 @@
 //! of a run of the program and what it wrote. The head of the table says how rows are written.
 #![tactic(auto)]
 
-mod bytes;
-mod fault;
 mod runs;
 mod stages;
 
-use fault::Fault;
 use std::alloc::Global;
 use std::io;
+use table_rows::{Names, RowFault, Told, Word, words_of};
+
+// Tells what the call of a row answers.
+fn tell(alloc: Global, words: &[Word<'_>], told: &mut String) -> Told {
+    let Some((call, words)) = words.split_first() else {
+        return Err(RowFault::Unreadable);
+    };
+    match call.text {
+        "seal" => stages::seal(alloc, words, told),
+        "open" => stages::open(alloc, words, told),
+        "run" => runs::run(alloc, words, told),
+        _ => Err(RowFault::Unreadable),
+    }
+}
 
 // What the call of a row answers.
-fn answer(alloc: Global, row: &str) -> Result<String, Fault> {
-    let words: Vec<&str> = row.split_whitespace().collect(alloc)?;
-    match words.as_slice() {
-        ["seal", others @ ..] => stages::seal(alloc, others),
-        ["open", others @ ..] => stages::open(alloc, others),
-        ["run", others @ ..] => runs::run(alloc, others),
-        _ => Err(Fault::Unread),
-    }
+fn answer(alloc: Global, names: &Names, row: &str) -> Result<String, RowFault> {
+    let words = words_of(alloc, names, row)?;
+    let mut told = String::new(alloc);
+    tell(alloc, &words, &mut told)?;
+    Ok(told)
 }
 
 fn main(rt: HostRuntime) -> io::Result<()> {
     let alloc = rt.alloc();
+    let names = Names::new(alloc);
     for line in rt.lines(alloc) {
         let line = line?;
         let row = line.as_str();
@@ -31,10 +40,10 @@ fn main(rt: HostRuntime) -> io::Result<()> {
             println!(rt; "{row}")?;
             continue;
         }
-        match answer(alloc, row) {
+        match answer(alloc, &names, row) {
             Ok(text) => println!(rt; "{text}")?,
-            Err(Fault::Unread) => println!(rt; "NOT A ROW: {row}")?,
-            Err(Fault::NoMemory) => return Err(io::Error::from(io::ErrorKind::OutOfMemory)),
+            Err(RowFault::Unreadable) => println!(rt; "NOT A ROW: {row}")?,
+            Err(RowFault::OutOfMemory) => return Err(io::Error::from(io::ErrorKind::OutOfMemory)),
         }
     }
     Ok(())

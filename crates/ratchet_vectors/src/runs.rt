@@ -1,9 +1,8 @@
 //! The rows of a run of the program's call.
-use crate::bytes::{bytes_of, numbers_of, shown};
-use crate::fault::Fault;
 use dpe_io::{MemSink, MemSource};
 use dpe_ratchets::ratchet_main;
-use std::alloc::Global;
+use std::alloc::{AllocError, Global};
+use table_rows::{RowFault, Told, Word, number, put, show_alike};
 
 /// The most bytes of one read and of one write.
 const PIECE: usize = 64;
@@ -11,26 +10,42 @@ const PIECE: usize = 64;
 /// The most bytes that are written.
 const ROOM: usize = 2_200;
 
-// A word of the program: `-` is the empty one.
-fn word_of<'a>(word: &'a str) -> &'a str {
-    if word == "-" { "" } else { word }
+// A source of these bytes, of which these reads fail.
+fn source(alloc: Global, bytes: &Word<'_>, failing: &Word<'_>) -> Result<MemSource, RowFault> {
+    let failing = failing.numbers(alloc)?;
+    Ok(MemSource::new(alloc, bytes.bytes()?, PIECE, &failing)?)
+}
+
+// A sink, of which these writes fail.
+fn sink(alloc: Global, failing: &Word<'_>) -> Result<MemSink, RowFault> {
+    let failing = failing.numbers(alloc)?;
+    Ok(MemSink::new(alloc, ROOM, PIECE, &failing)?)
+}
+
+// The words of the program: `-` is the empty one.
+fn asked<'a>(alloc: Global, words: &[Word<'a>]) -> Result<Vec<&'a str>, AllocError> {
+    let mut asked = Vec::new(alloc);
+    for word in words {
+        asked.push(if word.whole == "-" { "" } else { word.whole })?;
+    }
+    Ok(asked)
 }
 
 /// `SOURCE READS WRITES WORDS`: the status of a run over these bytes, whose reads and writes of these numbers fail, and what
 /// it wrote.
-pub(crate) fn run(alloc: Global, row: &[&str]) -> Result<String, Fault> {
-    let [source, reads, writes, words @ ..] = row else {
-        return Err(Fault::Unread);
+pub(crate) fn run(alloc: Global, words: &[Word<'_>], told: &mut String) -> Told {
+    let [bytes, reads, writes, words @ ..] = words else {
+        return Err(RowFault::Unreadable);
     };
-    let bytes = bytes_of(alloc, source)?;
-    let reads = numbers_of(alloc, reads)?;
-    let writes = numbers_of(alloc, writes)?;
-    let mut source = MemSource::new(alloc, &bytes, PIECE, &reads)?;
-    let mut sink = MemSink::new(alloc, ROOM, PIECE, &writes)?;
-    let mut asked = Vec::new(alloc);
-    for word in words {
-        asked.push(word_of(word))?;
-    }
-    let status = ratchet_main(&asked, &mut source, &mut sink);
-    Ok(format!(in alloc; "{status} {}", shown(alloc, sink.bytes())?)?)
+    let mut source = source(alloc, bytes, reads)?;
+    let mut sink = sink(alloc, writes)?;
+    let asked = asked(alloc, words)?;
+    run_over(&asked, &mut source, &mut sink, told)
+}
+
+fn run_over(words: &[&str], source: &mut MemSource, sink: &mut MemSink, told: &mut String) -> Told {
+    let status = ratchet_main(words, source, sink);
+    number(told, "", u64::from(status))?;
+    put(told, " ")?;
+    show_alike(told, sink.bytes())
 }

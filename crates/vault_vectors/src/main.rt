@@ -2,27 +2,36 @@
 //! wrote, or the entries of a vault. The head of the table says how rows are written.
 #![tactic(auto)]
 
-mod bytes;
-mod fault;
 mod runs;
 mod steps;
 
-use fault::Fault;
 use std::alloc::Global;
 use std::io;
+use table_rows::{Names, RowFault, Told, Word, words_of};
+
+// Tells what the call of a row answers.
+fn tell(alloc: Global, names: &Names, words: &[Word<'_>], told: &mut String) -> Told {
+    let Some((call, words)) = words.split_first() else {
+        return Err(RowFault::Unreadable);
+    };
+    match call.text {
+        "run" => runs::run(alloc, words, told),
+        "step" => steps::step(alloc, names, words, told),
+        _ => Err(RowFault::Unreadable),
+    }
+}
 
 // What the call of a row answers.
-fn answer(alloc: Global, row: &str) -> Result<String, Fault> {
-    let words: Vec<&str> = row.split_whitespace().collect(alloc)?;
-    match words.as_slice() {
-        ["run", others @ ..] => runs::run(alloc, others),
-        ["step", others @ ..] => steps::step(alloc, others),
-        _ => Err(Fault::Unread),
-    }
+fn answer(alloc: Global, names: &Names, row: &str) -> Result<String, RowFault> {
+    let words = words_of(alloc, names, row)?;
+    let mut told = String::new(alloc);
+    tell(alloc, names, &words, &mut told)?;
+    Ok(told)
 }
 
 fn main(rt: HostRuntime) -> io::Result<()> {
     let alloc = rt.alloc();
+    let names = Names::new(alloc);
     for line in rt.lines(alloc) {
         let line = line?;
         let row = line.as_str();
@@ -30,10 +39,10 @@ fn main(rt: HostRuntime) -> io::Result<()> {
             println!(rt; "{row}")?;
             continue;
         }
-        match answer(alloc, row) {
+        match answer(alloc, &names, row) {
             Ok(text) => println!(rt; "{text}")?,
-            Err(Fault::Unread) => println!(rt; "NOT A ROW: {row}")?,
-            Err(Fault::NoMemory) => return Err(io::Error::from(io::ErrorKind::OutOfMemory)),
+            Err(RowFault::Unreadable) => println!(rt; "NOT A ROW: {row}")?,
+            Err(RowFault::OutOfMemory) => return Err(io::Error::from(io::ErrorKind::OutOfMemory)),
         }
     }
     Ok(())

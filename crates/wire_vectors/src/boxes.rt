@@ -1,7 +1,6 @@
 //! Rows that seal and open boxes.
-use crate::told::{Told, number, put, show};
-use crate::values::{RowFault, Word};
 use dpe_box::{NotOpened, Opened, Policy, Unopened, admits, has_form, open_box, seal, unseal};
+use table_rows::{RowFault, Told, Word, number, put, show};
 
 /// Tells a row about boxes.
 pub(crate) fn tell(call: &str, words: &[Word<'_>], told: &mut String) -> Told {

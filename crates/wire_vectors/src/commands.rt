@@ -2,11 +2,10 @@
 ghost use Rattle.std.specs.Prelude.{◌≤◌, length, IfOk, IfSome};
 ghost use Rattle.dpe_messages.specs.CommandRows.{IsCommandWritable, IsShort};
 
-use crate::told::{Told, field, field_or_none, flag, number, put, show};
-use crate::values::{RowFault, Word};
 use dpe_messages::{
     Command, Config, Derive, Refusal, Seal, Sign, Unseal, read_payload, write_command,
 };
+use table_rows::{RowFault, Told, Word, field, field_or_none, flag, number, put, show};
 
 /// Tells the command that a payload asks for, with its arguments, or why it is none.
 pub(crate) fn read(payload: &[u8], told: &mut String) -> Told {

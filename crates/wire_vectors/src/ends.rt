@@ -1,7 +1,7 @@
 //! Sources and sinks in memory, as rows name them.
-use crate::values::{RowFault, Word};
 use dpe_io::{MemSink, MemSource};
 use std::alloc::Global;
+use table_rows::{RowFault, Word};
 
 /// A source of these bytes that gives a piece at most in a read, and of which these reads fail.
 pub(crate) fn source(
@@ -10,7 +10,7 @@ pub(crate) fn source(
     piece: &Word<'_>,
     failing: &Word<'_>,
 ) -> Result<MemSource, RowFault> {
-    let failing = failing.failing(alloc)?;
+    let failing = failing.numbers(alloc)?;
     Ok(MemSource::new(alloc, given.bytes()?, piece.size()?, &failing)?)
 }
 
@@ -21,6 +21,6 @@ pub(crate) fn sink(
     piece: &Word<'_>,
     failing: &Word<'_>,
 ) -> Result<MemSink, RowFault> {
-    let failing = failing.failing(alloc)?;
+    let failing = failing.numbers(alloc)?;
     Ok(MemSink::new(alloc, room.number()?, piece.size()?, &failing)?)
 }

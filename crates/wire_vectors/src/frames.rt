@@ -1,10 +1,9 @@
 //! Rows that read and write frames.
 use crate::ends::{sink, source};
-use crate::told::{Told, field, number, put};
-use crate::values::{RowFault, Word};
 use dpe_io::{MemSink, MemSource};
 use dpe_link::{FrameFault, WriteFault, read_frame, write_frame};
 use std::alloc::Global;
+use table_rows::{RowFault, Told, Word, field, number, put};
 
 /// Tells a row about frames.
 pub(crate) fn tell(alloc: Global, call: &str, words: &[Word<'_>], told: &mut String) -> Told {

@@ -2,20 +2,19 @@
 ghost use Rattle.std.specs.Prelude.{◌≡◌, IfOk, All};
 ghost use Rattle.dpe_io.specs.Memory.{IsFaultless, IsUnused};
 
-use crate::told::{Told, field, number, put, separate, show};
-use crate::values::{RowFault, Word};
 use dpe_io::{
     Dock, Door, Duplex, Entropy, Failed, House, MemConn, MemDock, MemDoor, MemEntropy, MemHouse,
     MemShelf, MemSink, MemSource, Shelf, Sink, Source,
 };
 use std::alloc::{AllocError, Global};
+use table_rows::{RowFault, Told, Word, field, number, put, separate, show};
 
 /// Tells a row about objects that open others.
 pub(crate) fn tell(alloc: Global, call: &str, words: &[Word<'_>], told: &mut String) -> Told {
     let [failing, calls, given @ ..] = words else {
         return Err(RowFault::Unreadable);
     };
-    let failing = failing.failing(alloc)?;
+    let failing = failing.numbers(alloc)?;
     let calls = calls.number()?;
     match call {
         "door" => door_row(alloc, &failing, calls, given, told),

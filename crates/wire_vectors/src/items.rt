@@ -1,9 +1,8 @@
 //! Rows that read and write items of CBOR.
-use crate::told::{Told, number, put, separate, show};
-use crate::values::{RowFault, Word};
 use dpe_cbor::{NoRoom, NotDeterministic, Reader, Writer};
 use std::alloc::Global;
 use std::str;
+use table_rows::{RowFault, Told, Word, number, put, separate, show};
 
 /// The most bytes that are written.
 const MOST_ROOM: usize = 256;

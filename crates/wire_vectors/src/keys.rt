@@ -1,6 +1,4 @@
 //! Rows of keyed functions, key streams, CDIs and signatures.
-use crate::told::{Told, field, number, show};
-use crate::values::{RowFault, Word};
 use dpe_chacha::apply;
 use dpe_hkdf::{expand, expand_labelled, extract};
 use dpe_hmac::{Hmac, hmac_of};
@@ -8,6 +6,7 @@ use dpe_inputs::{
     Cdis, Count, Input, Unsalted, configuration, first, next, signature, signature_with,
 };
 use std::alloc::Global;
+use table_rows::{RowFault, Told, Word, field, number, show};
 
 /// The most bytes that HKDF gives of one key.
 const MAX_OUTPUT: usize = 16_320;

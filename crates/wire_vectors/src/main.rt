@@ -13,13 +13,10 @@ mod messages;
 mod outside;
 mod replies;
 mod texts;
-mod told;
-mod values;
 
 use std::alloc::Global;
 use std::io;
-use told::Told;
-use values::{RowFault, Word, words_of};
+use table_rows::{Names, RowFault, Told, Word, words_of};
 
 // Tells what the call of a row answers. Its first word says what it is about, and its second names the call.
 fn tell(alloc: Global, words: &[Word<'_>], told: &mut String) -> Told {
@@ -40,8 +37,8 @@ fn tell(alloc: Global, words: &[Word<'_>], told: &mut String) -> Told {
 }
 
 // What the call of a row answers.
-fn answer(alloc: Global, row: &str) -> Result<String, RowFault> {
-    let words = words_of(alloc, row)?;
+fn answer(alloc: Global, names: &Names, row: &str) -> Result<String, RowFault> {
+    let words = words_of(alloc, names, row)?;
     let mut told = String::new(alloc);
     tell(alloc, &words, &mut told)?;
     Ok(told)
@@ -49,6 +46,7 @@ fn answer(alloc: Global, row: &str) -> Result<String, RowFault> {
 
 fn main(rt: HostRuntime) -> io::Result<()> {
     let alloc = rt.alloc();
+    let names = Names::new(alloc);
     for line in rt.lines(alloc) {
         let line = line?;
         let row = line.as_str();
@@ -56,7 +54,7 @@ fn main(rt: HostRuntime) -> io::Result<()> {
             println!(rt; "{row}")?;
             continue;
         }
-        match answer(alloc, row) {
+        match answer(alloc, &names, row) {
             Ok(text) => println!(rt; "{text}")?,
             Err(RowFault::Unreadable) => println!(rt; "NOT A ROW: {row}")?,
             Err(RowFault::OutOfMemory) => return Err(io::Error::from(io::ErrorKind::OutOfMemory)),

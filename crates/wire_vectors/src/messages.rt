@@ -1,8 +1,7 @@
 //! Rows that read and write payloads.
-use crate::told::{Told, number, put};
-use crate::values::{RowFault, Word};
 use crate::{commands, replies};
 use dpe_messages::{command_number, reply_code};
+use table_rows::{RowFault, Told, Word, number, put};
 
 /// Tells a row about payloads.
 pub(crate) fn tell(call: &str, words: &[Word<'_>], told: &mut String) -> Told {

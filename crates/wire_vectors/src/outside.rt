@@ -3,14 +3,13 @@
 ghost use Rattle.std.specs.Prelude.{◌≤◌, length};
 
 use crate::ends::{sink, source};
-use crate::told::{Told, field, number, put, separate, show};
-use crate::values::{RowFault, Word};
 use dpe_io::{
     Entropy, Failed, MAX_PACKET, MemEntropy, Packet, ReadSource, Sink, Source, SureEntropy,
     SureSource, WriteSink,
 };
 use std::alloc::Global;
 use std::io::{self, Read, Write};
+use table_rows::{RowFault, Told, Word, field, number, put, separate, show};
 
 /// The longest room for a read.
 const MOST_ROOM: usize = 16;
@@ -72,7 +71,7 @@ fn entropy_row(alloc: Global, words: &[Word<'_>], told: &mut String) -> Told {
 
 fn entropy(alloc: Global, given: &[Word<'_>], failing: &Word<'_>) -> Result<MemEntropy, RowFault> {
     let given = random_words(alloc, given)?;
-    let failing = failing.failing(alloc)?;
+    let failing = failing.numbers(alloc)?;
     Ok(MemEntropy::new(alloc, &given, &failing)?)
 }
 

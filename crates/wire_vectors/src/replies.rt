@@ -1,9 +1,8 @@
 //! Rows that read and write replies.
 ghost use Rattle.dpe_messages.specs.Replies.{IsWritable};
 
-use crate::told::{Told, field, field_or_none, number, put, show};
-use crate::values::{RowFault, Word};
 use dpe_messages::{Asked, Reply, read_reply, write_reply};
+use table_rows::{RowFault, Told, Word, field, field_or_none, number, put, show};
 
 /// The commands by the names that the rows have for them.
 static COMMANDS: [(&str, Asked); 8] = [

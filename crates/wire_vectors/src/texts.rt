@@ -1,11 +1,10 @@
 //! Rows of numbers in words, and of lines put together and written.
 use crate::ends::sink;
-use crate::told::{Told, field, number, put, show};
-use crate::values::{RowFault, Word};
 use dpe_io::{Failed, MemSink};
 use dpe_text::{MAX_TEXT, Text, parse_number, print, send};
 use std::alloc::Global;
 use std::str;
+use table_rows::{RowFault, Told, Word, field, number, put, show};
 
 /// Tells a row about texts.
 pub(crate) fn tell(alloc: Global, call: &str, words: &[Word<'_>], told: &mut String) -> Told {
