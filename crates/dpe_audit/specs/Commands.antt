@@ -11,9 +11,17 @@ required id = record (new_rule id) { required = true }
 abbrev pub judging : Text → Shape
 judging name = record (new_shape name) { rules = required (codes "seed") ∷ required (codes "journal") ∷ [] }
 
+-- `NAME JOURNAL`
+abbrev pub reading : Text → Shape
+reading name = record (new_shape name) { rules = required (codes "journal") ∷ [] }
+
 -- `list JOURNAL`
 abbrev pub listing : Shape
-listing = record (new_shape (codes "list")) { rules = required (codes "journal") ∷ [] }
+listing = reading (codes "list")
+
+-- `connection JOURNAL CALLER`
+abbrev pub calling : Shape
+calling = record (new_shape (codes "connection")) { rules = required (codes "journal") ∷ required (codes "caller") ∷ [] }
 
 -- `connection JOURNAL CALLER CONNECTION`
 abbrev pub connecting : Shape

@@ -2,9 +2,10 @@
 ghost use Rattle.std.specs.Prelude.{codes, ◌≡◌, ◌↔◌, ◌^◌, ◌<◌, ℕ, List, Option, Some, false, IfOk, IfErr, IfSome, IfNone, IsTrue};
 ghost use Rattle.std.specs.List.{All, AllByRecursion};
 ghost use Rattle.std.specs.Fmt.{decimal};
-ghost use Rattle.clap.specs.Words.{Row, app_of, first_of, found_of, kind_of, rows_of, rule_of, shape_of, subcommand_rows_of};
+ghost use Rattle.clap.specs.Words.{Row, app_of, first_of, found_of, kind_of, rows_of, rule_of, shape_of, subcommand_rows_of, with_subcommand};
 ghost use Rattle.clap.specs.declared.builder.command.Command.TheViews.{out-Command as fields_of};
-ghost use Rattle.dpe_audit.specs.Commands.{Asks, AsksThree, bare, connecting, judging, listing, program, required};
+ghost use Rattle.dpe_audit.specs.Commands.{Asks, AsksThree, bare, calling, connecting, judging, listing, program, reading, required};
+ghost use Rattle.clap.specs.Simple.{Shape};
 ghost use Rattle.dpe_audit.specs.Mode.{Mode};
 ghost use Rattle.dpe_audit.specs.Words.{IsPath, IsRequest, IsAnswer, NamesConnection, InRange, texts, words_of};
 
@@ -66,12 +67,20 @@ fn judging_command<'a>(alloc: Global, name: &'a str) -> Result<Command<'a>, Allo
         .arg(required_arg(alloc, "journal"))
 }
 
-// `list JOURNAL`
-fn listing_command<'a>(alloc: Global) -> Result<Command<'a>, AllocError>
-    ensures shape { IfOk result (λ command. shape_of command ≡ listing) }
+// `NAME JOURNAL`
+fn journal_command<'a>(alloc: Global, name: &'a str) -> Result<Command<'a>, AllocError>
+    ensures shape { IfOk result (λ command. shape_of command ≡ reading name.entry.now) }
     ensures local { IfOk result (λ command. (fields_of command).has_globals ≡ false) }
 {
-    Command::new(alloc, "list").arg(required_arg(alloc, "journal"))
+    Command::new(alloc, name).arg(required_arg(alloc, "journal"))
+}
+
+// `connection JOURNAL CALLER`
+fn caller_command<'a>(alloc: Global) -> Result<Command<'a>, AllocError>
+    ensures shape { IfOk result (λ command. shape_of command ≡ calling) }
+    ensures local { IfOk result (λ command. (fields_of command).has_globals ≡ false) }
+{
+    journal_command(alloc, "connection")?.arg(required_arg(alloc, "caller"))
 }
 
 // `connection JOURNAL CALLER CONNECTION`
@@ -79,10 +88,7 @@ fn connecting_command<'a>(alloc: Global) -> Result<Command<'a>, AllocError>
     ensures shape { IfOk result (λ command. shape_of command ≡ connecting) }
     ensures local { IfOk result (λ command. (fields_of command).has_globals ≡ false) }
 {
-    Command::new(alloc, "connection")
-        .arg(required_arg(alloc, "journal"))?
-        .arg(required_arg(alloc, "caller"))?
-        .arg(required_arg(alloc, "number"))
+    caller_command(alloc)?.arg(required_arg(alloc, "number"))
 }
 
 // The program without its subcommands. It has no options, and no subcommand `help`.
@@ -96,15 +102,29 @@ fn bare_command<'a>(alloc: Global) -> Command<'a>
         .subcommand_required(true)
 }
 
+// A command with one subcommand more, where memory was there for it.
+fn with_given<'a>(
+    command: Command<'a>,
+    subcommand: Result<Command<'a>, AllocError>,
+) -> Result<Command<'a>, AllocError>
+    requires local { IfOk subcommand (λ given. (fields_of given).has_globals ≡ false) }
+    ensures { (shape : Shape) → IfOk subcommand.entry (λ given. shape_of given ≡ shape)
+        → IfOk result (λ more. app_of more ≡ with_subcommand (app_of command.entry) shape) }
+{
+    match subcommand {
+        Ok(given) => command.subcommand(given),
+        Err(error) => Err(error),
+    }
+}
+
 // One command with four subcommands.
 fn program_command<'a>(alloc: Global) -> Result<Command<'a>, AllocError>
     ensures { IfOk result (λ command. app_of command ≡ program) }
 {
-    bare_command(alloc)
-        .subcommand(judging_command(alloc, "check")?)?
-        .subcommand(judging_command(alloc, "live")?)?
-        .subcommand(listing_command(alloc)?)?
-        .subcommand(connecting_command(alloc)?)
+    let command = with_given(bare_command(alloc), judging_command(alloc, "check"))?;
+    let command = with_given(command, judging_command(alloc, "live"))?;
+    let command = with_given(command, journal_command(alloc, "list"))?;
+    with_given(command, connecting_command(alloc))
 }
 
 // Parses words of which each is a path.
