@@ -1,6 +1,7 @@
 //! Rows that seal and open boxes.
+use crate::fields::{Value, tell_fields};
 use dpe_box::{NotOpened, Opened, Policy, Unopened, admits, has_form, open_box, seal, unseal};
-use table_rows::{RowFault, Told, Word, number, put, show};
+use table_rows::{RowFault, Told, Word, put, show};
 
 /// Tells a row about boxes.
 pub(crate) fn tell(call: &str, words: &[Word<'_>], told: &mut String) -> Told {
@@ -29,21 +30,20 @@ fn admits_row(words: &[Word<'_>], told: &mut String) -> Told {
     let [localities, modes, locality, mode] = words else {
         return Err(RowFault::Unreadable);
     };
-    let policy = Policy {
-        localities: localities.number()?,
-        modes: modes.number_to(15)?,
-    };
-    yes_or_no(admits(&policy, locality.number()?, mode.number()?), told)
+    let localities = localities.number_to(255)?;
+    let modes = modes.number_to(15)?;
+    let locality = locality.number_to(255)?;
+    let mode = mode.number_to(255)?;
+    yes_or_no(admits(&Policy { localities, modes }, locality, mode), told)
 }
 
 fn seal_row(words: &[Word<'_>], told: &mut String) -> Told {
     let [cdi, label, localities, modes, salt, plain] = words else {
         return Err(RowFault::Unreadable);
     };
-    let policy = Policy {
-        localities: localities.number()?,
-        modes: modes.number_to(15)?,
-    };
+    let localities = localities.number_to(255)?;
+    let modes = modes.number_to(15)?;
+    let policy = Policy { localities, modes };
     let cdi = cdi.array()?;
     let label = label.at_most(64)?;
     let salt = salt.array()?;
@@ -62,18 +62,20 @@ fn open_row(words: &[Word<'_>], told: &mut String) -> Told {
     let sealed = sealed.bytes()?;
     let mut room = [0; 2048];
     match open_box(&cdi, label, sealed, &mut room) {
-        Ok(Opened { len, policy }) => {
-            show(told, &room[..len])?;
-            tell_policy(&policy, told)
-        }
+        Ok(Opened { len, policy }) => tell_opened(&room[..len], &policy, told),
         Err(NotOpened::Malformed) => put(told, "malformed"),
         Err(NotOpened::Refused) => put(told, "refused"),
     }
 }
 
-fn tell_policy(policy: &Policy, told: &mut String) -> Told {
-    number(told, " for localities ", u64::from(policy.localities))?;
-    number(told, " and modes ", u64::from(policy.modes))
+fn tell_opened(plain: &[u8], policy: &Policy, told: &mut String) -> Told {
+    let localities = Value::Number(u64::from(policy.localities));
+    let fields = [
+        ("", Value::Bytes(plain)),
+        (" for localities ", localities),
+        (" and modes ", Value::Number(u64::from(policy.modes))),
+    ];
+    tell_fields(&fields, told)
 }
 
 fn unseal_row(words: &[Word<'_>], told: &mut String) -> Told {
@@ -83,7 +85,8 @@ fn unseal_row(words: &[Word<'_>], told: &mut String) -> Told {
     let cdi = cdi.array()?;
     let label = label.at_most(64)?;
     let sealed = sealed.bytes()?;
-    let (locality, mode) = (locality.number()?, mode.number()?);
+    let locality = locality.number_to(255)?;
+    let mode = mode.number_to(255)?;
     let mut room = [0; 2048];
     match unseal(&cdi, label, sealed, locality, mode, &mut room) {
         Ok(len) => show(told, &room[..len]),

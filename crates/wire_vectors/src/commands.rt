@@ -2,10 +2,11 @@
 ghost use Rattle.std.specs.Prelude.{◌≤◌, length, IfOk, IfSome};
 ghost use Rattle.dpe_messages.specs.CommandRows.{IsCommandWritable, IsShort};
 
+use crate::fields::{Value, tell_fields};
 use dpe_messages::{
     Command, Config, Derive, Refusal, Seal, Sign, Unseal, read_payload, write_command,
 };
-use table_rows::{RowFault, Told, Word, field, field_or_none, flag, number, put, show};
+use table_rows::{RowFault, Told, Word, field, flag, put, show};
 
 /// Tells the command that a payload asks for, with its arguments, or why it is none.
 pub(crate) fn read(payload: &[u8], told: &mut String) -> Told {
@@ -34,87 +35,71 @@ fn describe(command: &Command<'_>, told: &mut String) -> Told {
 }
 
 fn describe_derive(derive: &Derive<'_>, told: &mut String) -> Told {
-    let Derive {
-        handle,
-        code,
-        authority,
-        mode,
-        hidden,
-        ..
-    } = *derive;
-    field(told, "DeriveContext ", handle)?;
-    field(told, " code ", code)?;
-    describe_config(&derive.config, told)?;
-    field(told, " authority ", authority)?;
-    number(told, " mode ", u64::from(mode))?;
-    describe_hidden(hidden, told)?;
-    describe_child(derive, told)
+    let fields = [
+        ("DeriveContext ", Value::Bytes(derive.handle)),
+        (" code ", Value::Bytes(derive.code)),
+        config_field(&derive.config),
+        (" authority ", Value::Bytes(derive.authority)),
+        (" mode ", Value::Number(u64::from(derive.mode))),
+        (" hidden ", hidden_value(derive.hidden)),
+        (" retain ", Value::Flag(derive.retain)),
+        (" may-derive ", Value::Flag(derive.may_derive)),
+        (" locality ", locality_value(derive.locality)),
+    ];
+    tell_fields(&fields, told)
 }
 
-fn describe_config(config: &Config<'_>, told: &mut String) -> Told {
+fn config_field<'a>(config: &Config<'a>) -> (&'static str, Value<'a>) {
     match config {
-        Config::Inline(config) => field(told, " config ", *config),
-        Config::Descriptor(bytes) => field(told, " descriptor ", *bytes),
+        Config::Inline(config) => (" config ", Value::Bytes(*config)),
+        Config::Descriptor(bytes) => (" descriptor ", Value::Bytes(*bytes)),
     }
 }
 
-fn describe_hidden(hidden: Option<&[u8; 64]>, told: &mut String) -> Told {
+fn hidden_value(hidden: Option<&[u8; 64]>) -> Value<'_> {
     match hidden {
-        Some(hidden) => field_or_none(told, " hidden ", Some(hidden)),
-        None => field_or_none(told, " hidden ", None),
+        Some(hidden) => Value::Bytes(hidden),
+        None => Value::Missing,
     }
 }
 
-fn describe_child(derive: &Derive<'_>, told: &mut String) -> Told {
-    flag(told, " retain ", derive.retain)?;
-    flag(told, " may-derive ", derive.may_derive)?;
-    match derive.locality {
-        Some(locality) => number(told, " locality ", u64::from(locality)),
-        None => put(told, " locality none"),
+fn locality_value(locality: Option<u8>) -> Value<'static> {
+    match locality {
+        Some(locality) => Value::Number(u64::from(locality)),
+        None => Value::Missing,
     }
 }
 
 fn describe_sign(sign: &Sign<'_>, told: &mut String) -> Told {
-    let Sign {
-        handle,
-        label,
-        retain,
-        message,
-    } = *sign;
-    field(told, "Sign ", handle)?;
-    field(told, " label ", label)?;
-    flag(told, " retain ", retain)?;
-    field(told, " message ", message)
+    let fields = [
+        ("Sign ", Value::Bytes(sign.handle)),
+        (" label ", Value::Bytes(sign.label)),
+        (" retain ", Value::Flag(sign.retain)),
+        (" message ", Value::Bytes(sign.message)),
+    ];
+    tell_fields(&fields, told)
 }
 
 fn describe_seal(seal: &Seal<'_>, told: &mut String) -> Told {
-    let Seal {
-        handle,
-        label,
-        retain,
-        localities,
-        modes,
-        plain,
-    } = *seal;
-    field(told, "Seal ", handle)?;
-    field(told, " label ", label)?;
-    flag(told, " retain ", retain)?;
-    number(told, " localities ", u64::from(localities))?;
-    number(told, " modes ", u64::from(modes))?;
-    field(told, " plain ", plain)
+    let fields = [
+        ("Seal ", Value::Bytes(seal.handle)),
+        (" label ", Value::Bytes(seal.label)),
+        (" retain ", Value::Flag(seal.retain)),
+        (" localities ", Value::Number(u64::from(seal.localities))),
+        (" modes ", Value::Number(u64::from(seal.modes))),
+        (" plain ", Value::Bytes(seal.plain)),
+    ];
+    tell_fields(&fields, told)
 }
 
 fn describe_unseal(unseal: &Unseal<'_>, told: &mut String) -> Told {
-    let Unseal {
-        handle,
-        label,
-        retain,
-        sealed,
-    } = *unseal;
-    field(told, "Unseal ", handle)?;
-    field(told, " label ", label)?;
-    flag(told, " retain ", retain)?;
-    field(told, " box ", sealed)
+    let fields = [
+        ("Unseal ", Value::Bytes(unseal.handle)),
+        (" label ", Value::Bytes(unseal.label)),
+        (" retain ", Value::Flag(unseal.retain)),
+        (" box ", Value::Bytes(unseal.sealed)),
+    ];
+    tell_fields(&fields, told)
 }
 
 /// Tells the payload that asks for a command.

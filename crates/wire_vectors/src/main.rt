@@ -5,6 +5,7 @@
 mod boxes;
 mod commands;
 mod ends;
+mod fields;
 mod frames;
 mod houses;
 mod items;
