@@ -1,4 +1,6 @@
 //! Rows that seal and open boxes.
+ghost use Rattle.std.specs.Prelude.{◌≤◌, length};
+
 use crate::fields::{Value, tell_fields};
 use dpe_box::{NotOpened, Opened, Policy, Unopened, admits, has_form, open_box, seal, unseal};
 use table_rows::{RowFault, Told, Word, put, show};
@@ -48,8 +50,23 @@ fn seal_row(words: &[Word<'_>], told: &mut String) -> Told {
     let label = label.at_most(64)?;
     let salt = salt.array()?;
     let plain = plain.at_most(2048)?;
+    tell_sealed(&cdi, label, &policy, &salt, plain, told)
+}
+
+fn tell_sealed(
+    cdi: &[u8; 32],
+    label: &[u8],
+    policy: &Policy,
+    salt: &[u8; 16],
+    plain: &[u8],
+    told: &mut String,
+) -> Told
+    requires label { length label.now ≤ 64 }
+    requires modes { policy.now.modes ≤ 15 }
+    requires plain { length plain.now ≤ 2048 }
+{
     let mut room = [0; 4096];
-    let len = seal(&cdi, label, &policy, &salt, plain, &mut room);
+    let len = seal(cdi, label, policy, salt, plain, &mut room);
     show(told, &room[..len])
 }
 
@@ -60,8 +77,14 @@ fn open_row(words: &[Word<'_>], told: &mut String) -> Told {
     let cdi = cdi.array()?;
     let label = label.at_most(64)?;
     let sealed = sealed.bytes()?;
+    tell_open(&cdi, label, sealed, told)
+}
+
+fn tell_open(cdi: &[u8; 32], label: &[u8], sealed: &[u8], told: &mut String) -> Told
+    requires { length label.now ≤ 64 }
+{
     let mut room = [0; 2048];
-    match open_box(&cdi, label, sealed, &mut room) {
+    match open_box(cdi, label, sealed, &mut room) {
         Ok(Opened { len, policy }) => tell_opened(&room[..len], &policy, told),
         Err(NotOpened::Malformed) => put(told, "malformed"),
         Err(NotOpened::Refused) => put(told, "refused"),
@@ -87,8 +110,20 @@ fn unseal_row(words: &[Word<'_>], told: &mut String) -> Told {
     let sealed = sealed.bytes()?;
     let locality = locality.number_to(255)?;
     let mode = mode.number_to(255)?;
+    tell_unsealed(&cdi, label, sealed, (locality, mode), told)
+}
+
+fn tell_unsealed(
+    cdi: &[u8; 32],
+    label: &[u8],
+    sealed: &[u8],
+    caller: (u8, u8),
+    told: &mut String,
+) -> Told
+    requires { length label.now ≤ 64 }
+{
     let mut room = [0; 2048];
-    match unseal(&cdi, label, sealed, locality, mode, &mut room) {
+    match unseal(cdi, label, sealed, caller.0, caller.1, &mut room) {
         Ok(len) => show(told, &room[..len]),
         Err(Unopened::Malformed) => put(told, "malformed"),
         Err(Unopened::Refused) => put(told, "refused"),

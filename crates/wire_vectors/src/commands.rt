@@ -9,8 +9,8 @@ use dpe_messages::{
 use table_rows::{RowFault, Told, Word, field, flag, put, show};
 
 /// Tells the command that a payload asks for, with its arguments, or why it is none.
-pub(crate) fn read(payload: &[u8], told: &mut String) -> Told {
-    match read_payload(payload) {
+pub(crate) fn read(payload: &Word<'_>, told: &mut String) -> Told {
+    match read_payload(payload.bytes()?) {
         Ok(command) => describe(&command, told),
         Err(Refusal::NotACommand) => put(told, "2 not a command"),
         Err(Refusal::BadArguments) => put(told, "3 bad arguments"),
@@ -188,40 +188,55 @@ fn write_unseal(words: &[Word<'_>], told: &mut String) -> Told {
     written(&Command::Unseal(unseal), told)
 }
 
-fn write_derive(words: &[Word<'_>], told: &mut String) -> Told {
-    let [
-        handle,
-        code,
-        kind,
-        config,
-        authority,
-        mode,
-        hidden,
-        retain,
-        may_derive,
-        locality,
-    ] = words
-    else {
+// What a layer has of just so many bytes.
+#[derive(Clone, Copy)]
+struct Layer {
+    handle: [u8; 16],
+    code: [u8; 64],
+    inline: [u8; 64],
+    authority: [u8; 64],
+    hidden: Option<[u8; 64]>,
+}
+
+fn layer_of(words: &[Word<'_>]) -> Result<Layer, RowFault> {
+    let [handle, code, kind, config, authority, _mode, hidden, ..] = words else {
         return Err(RowFault::Unreadable);
     };
     let handle = handle.array()?;
     let code = code.array()?;
     let inline = inline_of(kind.text, config)?;
-    let descriptor = config.at_most(1024)?;
     let authority = authority.array()?;
-    let hidden: Option<[u8; 64]> = hidden.array_or_none()?;
-    let config = config_of(kind.text, &inline, descriptor);
-    let hidden = hidden.as_ref();
-    let derive = Derive {
-        handle: &handle,
-        code: &code,
-        config,
-        authority: &authority,
-        mode: mode.number_to(3)?,
+    let hidden = hidden.array_or_none()?;
+    Ok(Layer {
+        handle,
+        code,
+        inline,
+        authority,
         hidden,
-        retain: retain.truth()?,
-        may_derive: may_derive.truth()?,
-        locality: locality_or_none(locality)?,
+    })
+}
+
+// `HANDLE CODE KIND CONFIG AUTHORITY MODE HIDDEN RETAIN MAY-DERIVE LOCALITY`.
+fn write_derive(words: &[Word<'_>], told: &mut String) -> Told {
+    let layer = layer_of(words)?;
+    let [_, _, kind, config, _, mode, _, retain, may_derive, locality] = words else {
+        return Err(RowFault::Unreadable);
+    };
+    let descriptor = config.at_most(1024)?;
+    let mode = mode.number_to(3)?;
+    let retain = retain.truth()?;
+    let may_derive = may_derive.truth()?;
+    let locality = locality_or_none(locality)?;
+    let derive = Derive {
+        handle: &layer.handle,
+        code: &layer.code,
+        config: config_of(kind.text, &layer.inline, descriptor),
+        authority: &layer.authority,
+        mode,
+        hidden: layer.hidden.as_ref(),
+        retain,
+        may_derive,
+        locality,
     };
     written(&Command::Derive(derive), told)
 }
