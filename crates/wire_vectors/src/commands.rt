@@ -35,16 +35,27 @@ fn describe(command: &Command<'_>, told: &mut String) -> Told {
 }
 
 fn describe_derive(derive: &Derive<'_>, told: &mut String) -> Told {
+    let Derive {
+        handle,
+        code,
+        config,
+        authority,
+        mode,
+        hidden,
+        retain,
+        may_derive,
+        locality,
+    } = *derive;
     let fields = [
-        ("DeriveContext ", Value::Bytes(derive.handle)),
-        (" code ", Value::Bytes(derive.code)),
-        config_field(&derive.config),
-        (" authority ", Value::Bytes(derive.authority)),
-        (" mode ", Value::Number(u64::from(derive.mode))),
-        (" hidden ", hidden_value(derive.hidden)),
-        (" retain ", Value::Flag(derive.retain)),
-        (" may-derive ", Value::Flag(derive.may_derive)),
-        (" locality ", locality_value(derive.locality)),
+        ("DeriveContext ", Value::Bytes(handle)),
+        (" code ", Value::Bytes(code)),
+        config_field(&config),
+        (" authority ", Value::Bytes(authority)),
+        (" mode ", Value::Number(u64::from(mode))),
+        (" hidden ", hidden_value(hidden)),
+        (" retain ", Value::Flag(retain)),
+        (" may-derive ", Value::Flag(may_derive)),
+        (" locality ", locality_value(locality)),
     ];
     tell_fields(&fields, told)
 }
@@ -71,33 +82,53 @@ fn locality_value(locality: Option<u8>) -> Value<'static> {
 }
 
 fn describe_sign(sign: &Sign<'_>, told: &mut String) -> Told {
+    let Sign {
+        handle,
+        label,
+        retain,
+        message,
+    } = *sign;
     let fields = [
-        ("Sign ", Value::Bytes(sign.handle)),
-        (" label ", Value::Bytes(sign.label)),
-        (" retain ", Value::Flag(sign.retain)),
-        (" message ", Value::Bytes(sign.message)),
+        ("Sign ", Value::Bytes(handle)),
+        (" label ", Value::Bytes(label)),
+        (" retain ", Value::Flag(retain)),
+        (" message ", Value::Bytes(message)),
     ];
     tell_fields(&fields, told)
 }
 
 fn describe_seal(seal: &Seal<'_>, told: &mut String) -> Told {
+    let Seal {
+        handle,
+        label,
+        retain,
+        localities,
+        modes,
+        plain,
+    } = *seal;
     let fields = [
-        ("Seal ", Value::Bytes(seal.handle)),
-        (" label ", Value::Bytes(seal.label)),
-        (" retain ", Value::Flag(seal.retain)),
-        (" localities ", Value::Number(u64::from(seal.localities))),
-        (" modes ", Value::Number(u64::from(seal.modes))),
-        (" plain ", Value::Bytes(seal.plain)),
+        ("Seal ", Value::Bytes(handle)),
+        (" label ", Value::Bytes(label)),
+        (" retain ", Value::Flag(retain)),
+        (" localities ", Value::Number(u64::from(localities))),
+        (" modes ", Value::Number(u64::from(modes))),
+        (" plain ", Value::Bytes(plain)),
     ];
     tell_fields(&fields, told)
 }
 
 fn describe_unseal(unseal: &Unseal<'_>, told: &mut String) -> Told {
+    let Unseal {
+        handle,
+        label,
+        retain,
+        sealed,
+    } = *unseal;
     let fields = [
-        ("Unseal ", Value::Bytes(unseal.handle)),
-        (" label ", Value::Bytes(unseal.label)),
-        (" retain ", Value::Flag(unseal.retain)),
-        (" box ", Value::Bytes(unseal.sealed)),
+        ("Unseal ", Value::Bytes(handle)),
+        (" label ", Value::Bytes(label)),
+        (" retain ", Value::Flag(retain)),
+        (" box ", Value::Bytes(sealed)),
     ];
     tell_fields(&fields, told)
 }
