@@ -151,9 +151,10 @@ fn hidden_of<'a>(words: &[Word<'_>], hidden: &'a [u8; 64]) -> Option<&'a [u8; 64
     }
 }
 
-// What a layer has of 64 bytes.
+// What a layer has of just so many bytes.
 #[derive(Clone, Copy)]
 struct Inputs {
+    handle: [u8; 16],
     code: [u8; 64],
     config: [u8; 64],
     authority: [u8; 64],
@@ -161,12 +162,13 @@ struct Inputs {
 }
 
 // Where nothing else is said: the code 11, the configuration 21 and the authority 31, each 64 times.
-fn inputs_of(words: &[Word<'_>]) -> Result<Inputs, RowFault> {
+fn inputs_of(handle: &[u8; 16], words: &[Word<'_>]) -> Result<Inputs, RowFault> {
     let code = input_of(words, "code", 0x11)?;
     let config = input_of(words, "config", 0x21)?;
     let authority = input_of(words, "authority", 0x31)?;
     let hidden = input_of(words, "hidden", 0)?;
     Ok(Inputs {
+        handle: *handle,
         code,
         config,
         authority,
@@ -189,12 +191,12 @@ const DERIVE_KEYS: [&str; 9] = [
 // The mode is 1 where nothing else is said.
 fn derive(handle: &[u8; 16], words: &[Word<'_>], room: &mut [u8; 4096]) -> Written {
     expect(words, &DERIVE_KEYS)?;
-    let inputs = inputs_of(words)?;
+    let inputs = inputs_of(handle, words)?;
     let descriptor = bytes_of(words, "descriptor", MOST_DESCRIPTOR)?;
     let mode = number_of(words, "mode", 3, 1)?;
     let locality = target_of(words)?;
     let derive = Derive {
-        handle,
+        handle: &inputs.handle,
         code: &inputs.code,
         config: config_of(words, &inputs.config, descriptor),
         authority: &inputs.authority,
