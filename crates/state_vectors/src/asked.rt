@@ -1,13 +1,14 @@
 //! The commands of rows.
-ghost use Rattle.std.specs.Prelude.{◌≡◌, ◌≤◌, IfOk, IfSome, length};
-ghost use Rattle.std.specs.Vec.{vec_len};
-ghost use Rattle.dpe_messages.specs.CommandRows.{IsShort, IsDeriveWritable};
+ghost use Rattle.std.specs.Prelude.{◌≤◌, IfOk, IfSome, length};
+ghost use Rattle.dpe_messages.specs.CommandRows.{IsShort};
 
 use crate::both::{Both, Caller};
-use crate::bytes::{are_known, array, bytes, flag, number, small, value};
+use crate::boxes::name_box;
 use crate::fault::Fault;
-use dpe_messages::{Command, Config, Derive, Seal, Sign, Unseal};
+use crate::numbers::{number, small};
+use dpe_messages::{Command, Config, Derive, Seal, Sign, Unseal, write_command};
 use std::alloc::Global;
+use table_rows::{Names, RowFault, Word};
 
 /// The longest label, descriptor, text or message, and box of a command.
 const MOST_LABEL: usize = 64;
@@ -17,6 +18,9 @@ const MOST_DESCRIPTOR: usize = 1024;
 const MOST_TEXT: usize = 2048;
 
 const MOST_BOX: usize = 3900;
+
+/// How many bytes were written, or why none.
+type Written = Result<usize, RowFault>;
 
 // The handle of a context that both tell, zeros where there is none.
 fn told_handle(both: &Both, at: u32) -> [u8; 16] {
@@ -28,305 +32,337 @@ fn told_handle(both: &Both, at: u32) -> [u8; 16] {
 
 // A handle: `oldest`, `middle` and `newest` by the order of serials, or a serial, and behind `+` its last 8 bytes, which
 // else are zeros.
-fn handle(alloc: Global, both: &Both, text: &str) -> Result<[u8; 16], Fault> {
+fn handle(alloc: Global, both: &Both, text: &str) -> Result<[u8; 16], RowFault> {
     let (live, _) = both.counts();
     match text {
         "oldest" => Ok(told_handle(both, 0)),
         "middle" => Ok(told_handle(both, live / 2)),
         "newest" => Ok(told_handle(both, live.saturating_sub(1))),
-        _ => written_handle(alloc, text),
+        _ => written_handle(alloc, both.names(), text),
     }
 }
 
-fn written_handle(alloc: Global, text: &str) -> Result<[u8; 16], Fault> {
+fn written_handle(alloc: Global, names: &Names, text: &str) -> Result<[u8; 16], RowFault> {
     let (serial, last) = match text.split_once('+') {
-        Some((serial, last)) => (serial, array::<8>(alloc, last)?),
+        Some((serial, last)) => (serial, Word::read(alloc, names, last).array::<8>()?),
         None => (text, [0; 8]),
     };
+    let serial = number(serial)?;
     let mut handle = [0; 16];
-    handle[..8].copy_from_slice(&number(serial)?.to_be_bytes());
+    handle[..8].copy_from_slice(&serial.to_be_bytes());
     handle[8..].copy_from_slice(&last);
     Ok(handle)
 }
 
+// The word `key=..`, if there is one.
+fn find<'b, 'a>(words: &'b [Word<'a>], key: &str) -> Option<&'b Word<'a>> {
+    for word in words {
+        if word.name == key {
+            return Some(word);
+        }
+    }
+    None
+}
+
+// Whether a flag is there.
+fn flag(words: &[Word<'_>], name: &str) -> bool {
+    for word in words {
+        if word.whole == name {
+            return true;
+        }
+    }
+    false
+}
+
+// Whether a word is one of these flags, or begins with one of the keys.
+fn is_known(word: &Word<'_>, known: &[&str]) -> bool {
+    for name in known {
+        if word.name == *name || word.whole == *name {
+            return true;
+        }
+    }
+    false
+}
+
+// Sees that each word is known.
+fn expect(words: &[Word<'_>], known: &[&str]) -> Result<(), RowFault> {
+    for word in words {
+        if !is_known(word, known) {
+            return Err(RowFault::Unreadable);
+        }
+    }
+    Ok(())
+}
+
 // The bytes of a key, or none where it isn't there.
-fn bytes_of(
-    alloc: Global,
-    both: &Both,
-    words: &[&str],
-    key: &str,
-    most: usize,
-) -> Result<Vec<u8>, Fault>
-    ensures { IfOk result (λ b. vec_len b ≤ most) }
+fn bytes_of<'b>(words: &'b [Word<'_>], key: &str, most: usize) -> Result<&'b [u8], RowFault>
+    ensures { IfOk result (λ b. length b.now ≤ most) }
 {
-    match value(words, key) {
-        None => Ok(Vec::new(alloc)),
-        Some(text) => bytes(alloc, text, most, both.sealed()),
+    match find(words, key) {
+        None => Ok(&[]),
+        Some(word) => word.at_most(most),
     }
 }
 
 // An input of 64 bytes, or else 64 times the same byte.
-fn input_of(alloc: Global, words: &[&str], key: &str, other: u8) -> Result<[u8; 64], Fault> {
-    match value(words, key) {
+fn input_of(words: &[Word<'_>], key: &str, other: u8) -> Result<[u8; 64], RowFault> {
+    match find(words, key) {
         None => Ok([other; 64]),
-        Some(text) => array::<64>(alloc, text),
+        Some(word) => word.array::<64>(),
     }
 }
 
 // A number of a key up to `most`, or `other` where the key isn't there.
-fn number_of(words: &[&str], key: &str, most: u8, other: u8) -> Result<u8, Fault>
+fn number_of(words: &[Word<'_>], key: &str, most: u8, other: u8) -> Result<u8, RowFault>
     requires { other ≤ most }
     ensures { IfOk result (λ n. n ≤ most) }
 {
-    let number = match value(words, key) {
-        None => other,
-        Some(text) => small(text)?,
-    };
-    if number > most {
-        return Err(Fault::Unreadable);
+    match find(words, key) {
+        None => Ok(other),
+        Some(word) => word.number_to(most),
     }
-    Ok(number)
 }
 
-fn target_of(words: &[&str]) -> Result<Option<u8>, Fault>
+fn target_of(words: &[Word<'_>]) -> Result<Option<u8>, RowFault>
     ensures { IfOk result (λ t. IfSome t (λ l. l ≤ 7)) }
 {
-    match value(words, "to=") {
+    match find(words, "to") {
         None => Ok(None),
-        Some(_) => Ok(Some(number_of(words, "to=", 7, 0)?)),
+        Some(word) => Ok(Some(word.number_to(7)?)),
     }
 }
 
 // A descriptor where the words have one, and else the inline configuration.
-fn config_of<'a>(words: &[&str], inline: &'a [u8; 64], descriptor: &'a [u8]) -> Config<'a>
+fn config_of<'a>(words: &[Word<'_>], inline: &'a [u8; 64], descriptor: &'a [u8]) -> Config<'a>
     requires { length descriptor.now ≤ 1024 }
     ensures { IsShort result }
 {
-    match value(words, "descriptor=") {
+    match find(words, "descriptor") {
         None => Config::Inline(inline),
         Some(_) => Config::Descriptor(descriptor),
     }
 }
 
 // The hidden input where the words have one.
-fn hidden_of<'a>(words: &[&str], hidden: &'a [u8; 64]) -> Option<&'a [u8; 64]> {
-    match value(words, "hidden=") {
+fn hidden_of<'a>(words: &[Word<'_>], hidden: &'a [u8; 64]) -> Option<&'a [u8; 64]> {
+    match find(words, "hidden") {
         None => None,
         Some(_) => Some(hidden),
     }
 }
 
-// A layer with what the words say of its mode and of the child.
-fn layer<'a>(
-    words: &[&str],
-    handle: &'a [u8; 16],
-    code: &'a [u8; 64],
-    config: Config<'a>,
-    authority: &'a [u8; 64],
-    hidden: Option<&'a [u8; 64]>,
-) -> Result<Derive<'a>, Fault>
-    requires { IsShort config }
-    ensures { IfOk result IsDeriveWritable }
-{
-    Ok(Derive {
-        handle,
+// What a layer has of just so many bytes.
+#[derive(Clone, Copy)]
+struct Inputs {
+    handle: [u8; 16],
+    code: [u8; 64],
+    config: [u8; 64],
+    authority: [u8; 64],
+    hidden: [u8; 64],
+}
+
+// Where nothing else is said: the code 11, the configuration 21 and the authority 31, each 64 times.
+fn inputs_of(handle: &[u8; 16], words: &[Word<'_>]) -> Result<Inputs, RowFault> {
+    let code = input_of(words, "code", 0x11)?;
+    let config = input_of(words, "config", 0x21)?;
+    let authority = input_of(words, "authority", 0x31)?;
+    let hidden = input_of(words, "hidden", 0)?;
+    Ok(Inputs {
+        handle: *handle,
         code,
         config,
         authority,
-        mode: number_of(words, "mode=", 3, 1)?,
         hidden,
-        retain: flag(words, "retain"),
-        may_derive: !flag(words, "final"),
-        locality: target_of(words)?,
     })
 }
 
 const DERIVE_KEYS: [&str; 9] = [
-    "code=",
-    "config=",
-    "descriptor=",
-    "authority=",
-    "mode=",
-    "hidden=",
+    "code",
+    "config",
+    "descriptor",
+    "authority",
+    "mode",
+    "hidden",
     "retain",
     "final",
-    "to=",
+    "to",
 ];
 
-// Where nothing else is said: the code 11, the configuration 21 and the authority 31, each 64 times, and the mode 1.
-fn derive(
-    alloc: Global,
-    both: &mut Both,
-    caller: &Caller,
-    parent: &[u8; 16],
-    words: &[&str],
-) -> Result<(), Fault> {
-    if !are_known(words, &DERIVE_KEYS) {
-        return Err(Fault::Unreadable);
-    }
-    let code = input_of(alloc, words, "code=", 0x11)?;
-    let inline = input_of(alloc, words, "config=", 0x21)?;
-    let authority = input_of(alloc, words, "authority=", 0x31)?;
-    let hidden = input_of(alloc, words, "hidden=", 0)?;
-    let descriptor = bytes_of(alloc, both, words, "descriptor=", MOST_DESCRIPTOR)?;
-    let config = config_of(words, &inline, &descriptor);
-    let hidden = hidden_of(words, &hidden);
-    let layer = layer(words, parent, &code, config, &authority, hidden)?;
-    both.command(alloc, caller, &Command::Derive(layer))
-}
-
-fn sign(
-    alloc: Global,
-    both: &mut Both,
-    caller: &Caller,
-    context: &[u8; 16],
-    words: &[&str],
-) -> Result<(), Fault> {
-    if !are_known(words, &["label=", "message=", "retain"]) {
-        return Err(Fault::Unreadable);
-    }
-    let label = bytes_of(alloc, both, words, "label=", MOST_LABEL)?;
-    let message = bytes_of(alloc, both, words, "message=", MOST_TEXT)?;
-    let command = Command::Sign(Sign {
-        handle: context,
-        label: &label,
+// The mode is 1 where nothing else is said.
+fn derive(handle: &[u8; 16], words: &[Word<'_>], room: &mut [u8; 4096]) -> Written {
+    expect(words, &DERIVE_KEYS)?;
+    let inputs = inputs_of(handle, words)?;
+    let descriptor = bytes_of(words, "descriptor", MOST_DESCRIPTOR)?;
+    let mode = number_of(words, "mode", 3, 1)?;
+    let locality = target_of(words)?;
+    let derive = Derive {
+        handle: &inputs.handle,
+        code: &inputs.code,
+        config: config_of(words, &inputs.config, descriptor),
+        authority: &inputs.authority,
+        mode,
+        hidden: hidden_of(words, &inputs.hidden),
         retain: flag(words, "retain"),
-        message: &message,
-    });
-    both.command(alloc, caller, &command)
+        may_derive: !flag(words, "final"),
+        locality,
+    };
+    Ok(write_command(&Command::Derive(derive), room))
 }
 
-fn seal(
-    alloc: Global,
-    both: &mut Both,
-    caller: &Caller,
-    context: &[u8; 16],
-    words: &[&str],
-) -> Result<(), Fault> {
-    let keys = ["label=", "text=", "localities=", "modes=", "retain"];
-    if !are_known(words, &keys) {
-        return Err(Fault::Unreadable);
-    }
-    let label = bytes_of(alloc, both, words, "label=", MOST_LABEL)?;
-    let plain = bytes_of(alloc, both, words, "text=", MOST_TEXT)?;
-    let command = Command::Seal(Seal {
-        handle: context,
-        label: &label,
+fn sign(handle: &[u8; 16], words: &[Word<'_>], room: &mut [u8; 4096]) -> Written {
+    expect(words, &["label", "message", "retain"])?;
+    let label = bytes_of(words, "label", MOST_LABEL)?;
+    let message = bytes_of(words, "message", MOST_TEXT)?;
+    let sign = Sign {
+        handle,
+        label,
         retain: flag(words, "retain"),
-        localities: number_of(words, "localities=", 255, 255)?,
-        modes: number_of(words, "modes=", 15, 15)?,
-        plain: &plain,
-    });
-    both.command(alloc, caller, &command)?;
-    both.keep_box(alloc)?;
-    Ok(())
+        message,
+    };
+    Ok(write_command(&Command::Sign(sign), room))
 }
 
-fn unseal(
-    alloc: Global,
-    both: &mut Both,
-    caller: &Caller,
-    context: &[u8; 16],
-    words: &[&str],
-) -> Result<(), Fault> {
-    if !are_known(words, &["label=", "box=", "retain"]) {
-        return Err(Fault::Unreadable);
-    }
-    let label = bytes_of(alloc, both, words, "label=", MOST_LABEL)?;
-    let sealed = bytes_of(alloc, both, words, "box=", MOST_BOX)?;
-    let command = Command::Unseal(Unseal {
-        handle: context,
-        label: &label,
+fn seal(handle: &[u8; 16], words: &[Word<'_>], room: &mut [u8; 4096]) -> Written {
+    expect(words, &["label", "text", "localities", "modes", "retain"])?;
+    let label = bytes_of(words, "label", MOST_LABEL)?;
+    let plain = bytes_of(words, "text", MOST_TEXT)?;
+    let localities = number_of(words, "localities", 255, 255)?;
+    let modes = number_of(words, "modes", 15, 15)?;
+    let seal = Seal {
+        handle,
+        label,
         retain: flag(words, "retain"),
-        sealed: &sealed,
-    });
-    both.command(alloc, caller, &command)
+        localities,
+        modes,
+        plain,
+    };
+    Ok(write_command(&Command::Seal(seal), room))
 }
 
-// A command that uses a context.
+fn unseal(handle: &[u8; 16], words: &[Word<'_>], room: &mut [u8; 4096]) -> Written {
+    expect(words, &["label", "box", "retain"])?;
+    let label = bytes_of(words, "label", MOST_LABEL)?;
+    let sealed = bytes_of(words, "box", MOST_BOX)?;
+    let unseal = Unseal {
+        handle,
+        label,
+        retain: flag(words, "retain"),
+        sealed,
+    };
+    Ok(write_command(&Command::Unseal(unseal), room))
+}
+
+fn rotate(handle: &[u8; 16], words: &[Word<'_>], room: &mut [u8; 4096]) -> Written {
+    expect(words, &[])?;
+    Ok(write_command(&Command::Rotate(handle), room))
+}
+
+fn destroy(handle: &[u8; 16], words: &[Word<'_>], room: &mut [u8; 4096]) -> Written {
+    expect(words, &["family"])?;
+    let recursive = flag(words, "family");
+    Ok(write_command(&Command::Destroy { handle, recursive }, room))
+}
+
+// The payload of a command that uses a context.
+fn with_context(
+    name: &str,
+    handle: &[u8; 16],
+    words: &[Word<'_>],
+    room: &mut [u8; 4096],
+) -> Written {
+    match name {
+        "derive" => derive(handle, words, room),
+        "sign" => sign(handle, words, room),
+        "seal" => seal(handle, words, room),
+        "unseal" => unseal(handle, words, room),
+        "rotate" => rotate(handle, words, room),
+        "destroy" => destroy(handle, words, room),
+        _ => Err(RowFault::Unreadable),
+    }
+}
+
 fn use_context(
     alloc: Global,
-    both: &mut Both,
-    caller: &Caller,
+    both: &Both,
     name: &str,
-    words: &[&str],
-) -> Result<(), Fault> {
+    words: &[Word<'_>],
+    room: &mut [u8; 4096],
+) -> Written {
     let Some((context, words)) = words.split_first() else {
-        return Err(Fault::Unreadable);
+        return Err(RowFault::Unreadable);
     };
-    let context = &handle(alloc, both, context)?;
-    match name {
-        "derive" => derive(alloc, both, caller, context, words),
-        "sign" => sign(alloc, both, caller, context, words),
-        "seal" => seal(alloc, both, caller, context, words),
-        "unseal" => unseal(alloc, both, caller, context, words),
-        "rotate" => rotate(alloc, both, caller, context, words),
-        "destroy" => destroy(alloc, both, caller, context, words),
-        _ => Err(Fault::Unreadable),
-    }
+    let context = handle(alloc, both, context.whole)?;
+    with_context(name, &context, words, room)
 }
 
-fn rotate(
-    alloc: Global,
-    both: &mut Both,
-    caller: &Caller,
-    context: &[u8; 16],
-    words: &[&str],
-) -> Result<(), Fault> {
-    if !words.is_empty() {
-        return Err(Fault::Unreadable);
-    }
-    both.command(alloc, caller, &Command::Rotate(context))
+// A payload as it is.
+fn payload(words: &[Word<'_>], room: &mut [u8; 4096]) -> Written {
+    let [word] = words else {
+        return Err(RowFault::Unreadable);
+    };
+    let bytes = word.at_most(4096)?;
+    room[..bytes.len()].copy_from_slice(bytes);
+    Ok(bytes.len())
 }
 
-fn destroy(
-    alloc: Global,
-    both: &mut Both,
-    caller: &Caller,
-    context: &[u8; 16],
-    words: &[&str],
-) -> Result<(), Fault> {
-    if !are_known(words, &["family"]) {
-        return Err(Fault::Unreadable);
+// The payload of a command: its name, the handle of the context that it uses, and its arguments.
+fn payload_of(alloc: Global, both: &Both, words: &[Word<'_>], room: &mut [u8; 4096]) -> Written {
+    let Some((name, words)) = words.split_first() else {
+        return Err(RowFault::Unreadable);
+    };
+    match name.whole {
+        "profile" => Ok(write_command(&Command::GetProfile, room)),
+        "initialize" => Ok(write_command(&Command::Initialize, room)),
+        "payload" => payload(words, room),
+        name => use_context(alloc, both, name, words, room),
     }
-    let command = Command::Destroy {
-        handle: context,
-        recursive: flag(words, "family"),
-    };
-    both.command(alloc, caller, &command)
-}
-
-fn payload(alloc: Global, both: &mut Both, caller: &Caller, words: &[&str]) -> Result<(), Fault> {
-    let [text] = words else {
-        return Err(Fault::Unreadable);
-    };
-    let payload = bytes(alloc, text, 4096, both.sealed())?;
-    both.execute(alloc, caller, &payload)
 }
 
 // The caller's locality, and behind `/` its random bytes, which else are zeros.
-fn caller_of(alloc: Global, who: &str) -> Result<Caller, Fault> {
+fn caller_of(alloc: Global, names: &Names, who: &str) -> Result<Caller, RowFault> {
     let (locality, random) = match who.split_once('/') {
-        Some((locality, random)) => (locality, array::<32>(alloc, random)?),
+        Some((locality, random)) => (locality, Word::read(alloc, names, random).array::<32>()?),
         None => (who, [0; 32]),
     };
-    Ok(Caller {
-        locality: small(locality)?,
-        random,
-    })
+    let locality = small(locality)?;
+    Ok(Caller { locality, random })
+}
+
+// The words with the bytes that they stand for now.
+fn words_for<'a>(
+    alloc: Global,
+    names: &mut Names,
+    words: &[&'a str],
+) -> Result<Vec<Word<'a>>, RowFault> {
+    let mut read = Vec::new(alloc);
+    for word in words {
+        name_box(alloc, names, word)?;
+        read.push(Word::read(alloc, names, word))?;
+    }
+    Ok(read)
+}
+
+// Writes the payload of these words.
+fn write(alloc: Global, both: &mut Both, words: &[&str], room: &mut [u8; 4096]) -> Written {
+    let words = words_for(alloc, both.names_mut(), words)?;
+    payload_of(alloc, both, &words, room)
 }
 
 /// Has both reply to the command of a row: the caller, the command's name, the handle of the context that it uses, and its
 /// arguments.
 pub(crate) fn ask(alloc: Global, both: &mut Both, words: &[&str]) -> Result<(), Fault> {
-    let [who, name, words @ ..] = words else {
+    let Some((who, words)) = words.split_first() else {
         return Err(Fault::Unreadable);
     };
-    let caller = &caller_of(alloc, who)?;
-    match *name {
-        "profile" => both.command(alloc, caller, &Command::GetProfile),
-        "initialize" => both.command(alloc, caller, &Command::Initialize),
-        "payload" => payload(alloc, both, caller, words),
-        _ => use_context(alloc, both, caller, name, words),
+    let caller = caller_of(alloc, both.names(), who)?;
+    let mut room = [0; 4096];
+    let len = write(alloc, both, words, &mut room)?;
+    let Some(payload) = room.get(..len) else {
+        return Err(Fault::Unreadable);
+    };
+    both.execute(alloc, &caller, payload)?;
+    if words.first() == Some(&"seal") {
+        both.keep_box(alloc)?;
     }
+    Ok(())
 }

@@ -1,13 +1,11 @@
 //! The executor and the plain evaluator, side by side.
-ghost use Rattle.std.specs.Prelude.{◌≤◌, ◌<◌, IsTrue, length};
-ghost use Rattle.dpe_messages.specs.CommandRows.{IsCommandWritable};
-
 use crate::fault::Fault;
 use dpe_core::Core;
 use dpe_inputs::Count;
-use dpe_messages::{Asked, Command, Reply, read_reply, write_command};
+use dpe_messages::{Asked, Reply, read_reply};
 use dpe_model::{LiveRow, Plain};
 use std::alloc::{AllocError, Global};
+use table_rows::{Names, RowFault};
 
 /// Who asks, and with which random bytes.
 #[derive(Clone, Copy)]
@@ -16,14 +14,14 @@ pub struct Caller {
     pub random: [u8; 32],
 }
 
-/// Both, from the same seed and first serial, the folds that the executor counts, the box that was sealed last, and what
-/// each replied last.
+/// Both, from the same seed and first serial, the folds that the executor counts, the names of bytes, of which `box` is the
+/// box that was sealed last, and what each replied last.
 #[derive(Drop)]
 pub struct Both {
     core: Core,
     plain: Plain,
     folds: Count,
-    sealed: Vec<u8>,
+    names: Names,
     by_core: Vec<u8>,
     by_plain: Vec<u8>,
 }
@@ -49,7 +47,7 @@ impl Both {
             core: Core::make(alloc, seed, first)?,
             plain: Plain::make(alloc, seed, first),
             folds: Count::new(),
-            sealed: Vec::new(alloc),
+            names: Names::new(alloc),
             by_core: Vec::new(alloc),
             by_plain: Vec::new(alloc),
         })
@@ -69,11 +67,14 @@ impl Both {
     }
 
     /// Keeps the box in the reply to a Seal.
-    pub(crate) fn keep_box(&mut self, alloc: Global) -> Result<(), AllocError> {
-        if let Ok(Reply::Made { bytes, .. }) = read_reply(&Asked::Seal, &self.by_core) {
-            self.sealed = Vec::from_slice(alloc, bytes)?;
+    pub(crate) fn keep_box(&mut self, alloc: Global) -> Result<(), RowFault> {
+        match read_reply(&Asked::Seal, &self.by_core) {
+            Ok(Reply::Made { bytes, .. }) => {
+                let sealed = Vec::from_slice(alloc, bytes)?;
+                self.names.name(alloc, "box", sealed)
+            }
+            _ => Ok(()),
         }
-        Ok(())
     }
 
     /// What both replied last, or the executor alone where they differ.
@@ -86,9 +87,14 @@ impl Both {
         &self.by_plain
     }
 
-    /// The box that was sealed last, or no byte before the first.
-    pub(crate) fn sealed(&self) -> &[u8] {
-        &self.sealed
+    /// The names of bytes.
+    pub(crate) fn names(&self) -> &Names {
+        &self.names
+    }
+
+    /// The names of bytes, to give more of them.
+    pub(crate) fn names_mut(&mut self) -> &mut Names {
+        &mut self.names
     }
 
     /// How many contexts live, and how many folds were counted.
@@ -149,19 +155,5 @@ impl Both {
             return Err(Fault::ContextsDiffer);
         }
         Ok(())
-    }
-
-    /// Has both reply to a command.
-    pub(crate) fn command(
-        &mut self,
-        alloc: Global,
-        caller: &Caller,
-        command: &Command<'_>,
-    ) -> Result<(), Fault>
-        requires { IsCommandWritable command.now }
-    {
-        let mut room = [0; 4096];
-        let len = write_command(command, &mut room);
-        self.execute(alloc, caller, &room[..len])
     }
 }

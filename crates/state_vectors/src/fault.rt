@@ -1,5 +1,6 @@
 //! Why a row has no answer.
 use std::alloc::AllocError;
+use table_rows::RowFault;
 
 /// Why a row has no answer.
 #[derive(Clone, Copy)]
@@ -19,5 +20,14 @@ pub enum Fault {
 impl From<AllocError> for Fault {
     fn from(_: AllocError) -> Fault {
         Fault::Memory
+    }
+}
+
+impl From<RowFault> for Fault {
+    fn from(fault: RowFault) -> Fault {
+        match fault {
+            RowFault::Unreadable => Fault::Unreadable,
+            RowFault::OutOfMemory => Fault::Memory,
+        }
     }
 }

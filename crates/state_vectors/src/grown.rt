@@ -2,8 +2,8 @@
 ghost use Rattle.std.specs.Prelude.{◌≡◌, ◌<◌, ◌≤◌, IsTrue};
 ghost use Rattle.dpe_tree.specs.Tree.{IsUsed, IsLive};
 
-use crate::bytes::small;
 use crate::fault::Fault;
+use crate::numbers::small;
 use crate::replies::printed;
 use dpe_inputs::{Cdis, Input};
 use dpe_tree::{MOST_DEPTH, MOST_LIVE, MOST_PLACES, Place, Tree};

@@ -2,8 +2,8 @@
 ghost use Rattle.std.specs.Prelude.{◌≡◌, ◌<◌, IsTrue, All, IfOk, length};
 ghost use Rattle.dpe_handles.specs.Rows.{serial};
 
-use crate::bytes::{number, small};
 use crate::fault::Fault;
+use crate::numbers::{number, small};
 use crate::replies::printed;
 use dpe_handles::{MOST_ROWS, Row, Steps, Table};
 use std::alloc::{AllocError, Global};

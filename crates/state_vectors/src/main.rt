@@ -6,10 +6,11 @@
 
 mod asked;
 mod both;
-mod bytes;
+mod boxes;
 mod fault;
 mod grown;
 mod handles;
+mod numbers;
 mod replies;
 mod rows;
 

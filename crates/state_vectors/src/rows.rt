@@ -1,16 +1,17 @@
 //! The rows of a table.
 use crate::asked::ask;
 use crate::both::Both;
-use crate::bytes::{array, number, small};
 use crate::fault::Fault;
 use crate::grown::Grown;
 use crate::handles;
+use crate::numbers::{number, small};
 use crate::replies::{printed, told};
 use dpe_handles::Table;
 use dpe_messages::reply_code;
 use dpe_model::LiveRow;
 use sha2::{Digest, Sha256};
 use std::alloc::{AllocError, Global};
+use table_rows::Word;
 
 /// What the rows of a table are tried on.
 #[derive(Drop)]
@@ -106,8 +107,9 @@ impl Trial {
         let [seed, first] = words else {
             return Err(Fault::Unreadable);
         };
-        let seed = array::<32>(alloc, seed)?;
-        self.both.begin(alloc, &seed, number(first)?)?;
+        let seed = Word::read(alloc, self.both.names(), seed).array::<32>()?;
+        let first = number(first)?;
+        self.both.begin(alloc, &seed, first)?;
         self.counts(alloc)
     }
 

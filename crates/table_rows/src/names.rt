@@ -15,6 +15,7 @@ pub struct Names {
 
 impl Names {
     /// No name yet.
+    // no clause: the rows show it, whose stored runs are compared.
     pub fn new(alloc: Global) -> Names {
         Names {
             all: Vec::new(alloc),
@@ -22,6 +23,7 @@ impl Names {
     }
 
     /// Gives a name to bytes, in place of those that had it.
+    // no clause: the rows show it, whose stored runs are compared.
     pub fn name(&mut self, alloc: Global, name: &str, bytes: Vec<u8>) -> Result<(), RowFault> {
         for named in &mut self.all {
             if named.name.as_str() == name {
@@ -35,6 +37,7 @@ impl Names {
     }
 
     /// The bytes of a name, if it has been given.
+    // no clause: the rows show it, whose stored runs are compared.
     pub fn get(&self, name: &str) -> Option<&[u8]> {
         for named in &self.all {
             if named.name.as_str() == name {

@@ -13,12 +13,14 @@ const FEWEST_ALIKE: usize = 5;
 pub type Told = Result<(), RowFault>;
 
 /// Tells a text.
+// no clause: stored runs are compared with what it prints.
 pub fn put(told: &mut String, text: &str) -> Told {
     told.push_str(text)?;
     Ok(())
 }
 
 /// Parts two answers, where one was told before.
+// no clause: stored runs are compared with what it prints.
 pub fn separate(told: &mut String) -> Told {
     if told.is_empty() || told.ends_with(' ') {
         return Ok(());
@@ -27,24 +29,28 @@ pub fn separate(told: &mut String) -> Told {
 }
 
 /// Tells a number behind its name.
+// no clause: stored runs are compared with what it prints.
 pub fn number(told: &mut String, name: &str, number: u64) -> Told {
     write!(told, "{name}{number}")?;
     Ok(())
 }
 
 /// Tells whether something holds, behind its name.
+// no clause: stored runs are compared with what it prints.
 pub fn flag(told: &mut String, name: &str, holds: bool) -> Told {
     write!(told, "{name}{holds}")?;
     Ok(())
 }
 
 /// Tells bytes behind their name.
+// no clause: stored runs are compared with what it prints.
 pub fn field(told: &mut String, name: &str, bytes: &[u8]) -> Told {
     put(told, name)?;
     show(told, bytes)
 }
 
 /// Tells bytes, or `none`, behind their name.
+// no clause: stored runs are compared with what it prints.
 pub fn field_or_none(told: &mut String, name: &str, bytes: Option<&[u8]>) -> Told {
     put(told, name)?;
     match bytes {
@@ -64,6 +70,7 @@ fn alike(bytes: &[u8], fewest: usize) -> Option<u8> {
 }
 
 /// Tells bytes in hexadecimal digits.
+// no clause: stored runs are compared with what it prints.
 pub fn put_digits(told: &mut String, bytes: &[u8]) -> Result<(), AllocError> {
     for byte in bytes {
         write!(told, "{byte:02x}")?;
@@ -72,6 +79,7 @@ pub fn put_digits(told: &mut String, bytes: &[u8]) -> Result<(), AllocError> {
 }
 
 /// Tells bytes as rows write them: `-` for none, `HH*N` where at least so many are alike, and else digits.
+// no clause: stored runs are compared with what it prints.
 pub fn put_alike(told: &mut String, bytes: &[u8], fewest: usize) -> Result<(), AllocError> {
     if bytes.is_empty() {
         return told.push_str("-");
@@ -83,6 +91,7 @@ pub fn put_alike(told: &mut String, bytes: &[u8], fewest: usize) -> Result<(), A
 }
 
 /// Tells bytes as rows write them, where 16 and more are alike as `HH*N`.
+// no clause: stored runs are compared with what it prints.
 pub fn show_alike(told: &mut String, bytes: &[u8]) -> Told {
     put_alike(told, bytes, 16)?;
     Ok(())
@@ -99,6 +108,7 @@ fn put_bytes(told: &mut String, bytes: &[u8]) -> Result<(), AllocError> {
 
 /// Tells bytes as rows write them, where five and more are alike as `HH*N`. More than 256 that aren't are told by their
 /// number and their SHA-512.
+// no clause: stored runs are compared with what it prints.
 pub fn show(told: &mut String, bytes: &[u8]) -> Told {
     put_bytes(told, bytes)?;
     Ok(())

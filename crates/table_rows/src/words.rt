@@ -23,6 +23,7 @@ pub struct Word<'a> {
 
 impl<'a> Word<'a> {
     /// Reads a word with the names that the table has given.
+    // no clause: the rows show it, whose stored runs are compared.
     pub fn read(alloc: Global, names: &Names, word: &'a str) -> Word<'a> {
         let (name, text) = word.split_once('=').unwrap_or(("", word));
         let bytes = bytes_of(alloc, names, text);
@@ -37,6 +38,7 @@ impl<'a> Word<'a> {
 
 impl Word<'_> {
     /// The bytes that it stands for.
+    // no clause: the rows show it, whose stored runs are compared.
     pub fn bytes(&self) -> Result<&[u8], RowFault> {
         match &self.bytes {
             Ok(bytes) => Ok(bytes),
@@ -55,6 +57,7 @@ impl Word<'_> {
     }
 
     /// The bytes, where they are just so many.
+    // no clause: the rows show it, whose stored runs are compared.
     pub fn array<const N: usize>(&self) -> Result<[u8; N], RowFault> {
         let bytes = self.bytes()?;
         if bytes.len() != N {
@@ -66,6 +69,7 @@ impl Word<'_> {
     }
 
     /// The bytes, where they are just so many, or nothing for `none`.
+    // no clause: the rows show it, whose stored runs are compared.
     pub fn array_or_none<const N: usize>(&self) -> Result<Option<[u8; N]>, RowFault> {
         if self.text == "none" {
             return Ok(None);
@@ -74,6 +78,7 @@ impl Word<'_> {
     }
 
     /// The number that it spells in decimal digits.
+    // no clause: the rows show it, whose stored runs are compared.
     pub fn number<T: FromStr>(&self) -> Result<T, RowFault>
     where
         T::Err: Drop,
@@ -112,6 +117,7 @@ impl Word<'_> {
     }
 
     /// `true` or `false`.
+    // no clause: the rows show it, whose stored runs are compared.
     pub fn truth(&self) -> Result<bool, RowFault> {
         match self.text {
             "true" => Ok(true),
@@ -121,6 +127,7 @@ impl Word<'_> {
     }
 
     /// Numbers with commas between, as those of the calls that are to fail. None for `-`.
+    // no clause: the rows show it, whose stored runs are compared.
     pub fn numbers(&self, alloc: Global) -> Result<Vec<u32>, RowFault> {
         let mut numbers = Vec::new(alloc);
         if self.text != "-" {
@@ -133,6 +140,7 @@ impl Word<'_> {
 }
 
 /// The words of a row, which have blanks between them.
+// no clause: the rows show it, whose stored runs are compared.
 pub fn words_of<'a>(alloc: Global, names: &Names, row: &'a str) -> Result<Vec<Word<'a>>, RowFault> {
     let mut words = Vec::new(alloc);
     for word in row.split_whitespace() {

@@ -9,7 +9,7 @@ use std::alloc::Global;
 use std::io;
 use table_rows::{Names, RowFault, Told, Word, words_of};
 
-// Tells what the call of a row answers.
+// Tells what these words call for.
 fn tell(alloc: Global, names: &Names, words: &[Word<'_>], told: &mut String) -> Told {
     let Some((call, words)) = words.split_first() else {
         return Err(RowFault::Unreadable);
@@ -21,17 +21,16 @@ fn tell(alloc: Global, names: &Names, words: &[Word<'_>], told: &mut String) -> 
     }
 }
 
-// What the call of a row answers.
-fn answer(alloc: Global, names: &Names, row: &str) -> Result<String, RowFault> {
+// Tells what the call of a row answers.
+fn answer(alloc: Global, names: &Names, row: &str, told: &mut String) -> Told {
     let words = words_of(alloc, names, row)?;
-    let mut told = String::new(alloc);
-    tell(alloc, names, &words, &mut told)?;
-    Ok(told)
+    tell(alloc, names, &words, told)
 }
 
 fn main(rt: HostRuntime) -> io::Result<()> {
     let alloc = rt.alloc();
     let names = Names::new(alloc);
+    let mut told = String::new(alloc);
     for line in rt.lines(alloc) {
         let line = line?;
         let row = line.as_str();
@@ -39,8 +38,9 @@ fn main(rt: HostRuntime) -> io::Result<()> {
             println!(rt; "{row}")?;
             continue;
         }
-        match answer(alloc, &names, row) {
-            Ok(text) => println!(rt; "{text}")?,
+        told.clear();
+        match answer(alloc, &names, row, &mut told) {
+            Ok(()) => println!(rt; "{told}")?,
             Err(RowFault::Unreadable) => println!(rt; "NOT A ROW: {row}")?,
             Err(RowFault::OutOfMemory) => return Err(io::Error::from(io::ErrorKind::OutOfMemory)),
         }

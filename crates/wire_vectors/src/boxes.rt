@@ -1,6 +1,9 @@
 //! Rows that seal and open boxes.
+ghost use Rattle.std.specs.Prelude.{◌≤◌, length};
+
+use crate::fields::{Value, tell_fields};
 use dpe_box::{NotOpened, Opened, Policy, Unopened, admits, has_form, open_box, seal, unseal};
-use table_rows::{RowFault, Told, Word, number, put, show};
+use table_rows::{RowFault, Told, Word, put, show};
 
 /// Tells a row about boxes.
 pub(crate) fn tell(call: &str, words: &[Word<'_>], told: &mut String) -> Told {
@@ -29,27 +32,41 @@ fn admits_row(words: &[Word<'_>], told: &mut String) -> Told {
     let [localities, modes, locality, mode] = words else {
         return Err(RowFault::Unreadable);
     };
-    let policy = Policy {
-        localities: localities.number()?,
-        modes: modes.number_to(15)?,
-    };
-    yes_or_no(admits(&policy, locality.number()?, mode.number()?), told)
+    let localities = localities.number_to(255)?;
+    let modes = modes.number_to(15)?;
+    let locality = locality.number_to(255)?;
+    let mode = mode.number_to(255)?;
+    yes_or_no(admits(&Policy { localities, modes }, locality, mode), told)
 }
 
 fn seal_row(words: &[Word<'_>], told: &mut String) -> Told {
     let [cdi, label, localities, modes, salt, plain] = words else {
         return Err(RowFault::Unreadable);
     };
-    let policy = Policy {
-        localities: localities.number()?,
-        modes: modes.number_to(15)?,
-    };
+    let localities = localities.number_to(255)?;
+    let modes = modes.number_to(15)?;
+    let policy = Policy { localities, modes };
     let cdi = cdi.array()?;
     let label = label.at_most(64)?;
     let salt = salt.array()?;
     let plain = plain.at_most(2048)?;
+    tell_sealed(&cdi, label, &policy, &salt, plain, told)
+}
+
+fn tell_sealed(
+    cdi: &[u8; 32],
+    label: &[u8],
+    policy: &Policy,
+    salt: &[u8; 16],
+    plain: &[u8],
+    told: &mut String,
+) -> Told
+    requires label { length label.now ≤ 64 }
+    requires modes { policy.now.modes ≤ 15 }
+    requires plain { length plain.now ≤ 2048 }
+{
     let mut room = [0; 4096];
-    let len = seal(&cdi, label, &policy, &salt, plain, &mut room);
+    let len = seal(cdi, label, policy, salt, plain, &mut room);
     show(told, &room[..len])
 }
 
@@ -60,20 +77,28 @@ fn open_row(words: &[Word<'_>], told: &mut String) -> Told {
     let cdi = cdi.array()?;
     let label = label.at_most(64)?;
     let sealed = sealed.bytes()?;
+    tell_open(&cdi, label, sealed, told)
+}
+
+fn tell_open(cdi: &[u8; 32], label: &[u8], sealed: &[u8], told: &mut String) -> Told
+    requires { length label.now ≤ 64 }
+{
     let mut room = [0; 2048];
-    match open_box(&cdi, label, sealed, &mut room) {
-        Ok(Opened { len, policy }) => {
-            show(told, &room[..len])?;
-            tell_policy(&policy, told)
-        }
+    match open_box(cdi, label, sealed, &mut room) {
+        Ok(Opened { len, policy }) => tell_opened(&room[..len], &policy, told),
         Err(NotOpened::Malformed) => put(told, "malformed"),
         Err(NotOpened::Refused) => put(told, "refused"),
     }
 }
 
-fn tell_policy(policy: &Policy, told: &mut String) -> Told {
-    number(told, " for localities ", u64::from(policy.localities))?;
-    number(told, " and modes ", u64::from(policy.modes))
+fn tell_opened(plain: &[u8], policy: &Policy, told: &mut String) -> Told {
+    let localities = Value::Number(u64::from(policy.localities));
+    let fields = [
+        ("", Value::Bytes(plain)),
+        (" for localities ", localities),
+        (" and modes ", Value::Number(u64::from(policy.modes))),
+    ];
+    tell_fields(&fields, told)
 }
 
 fn unseal_row(words: &[Word<'_>], told: &mut String) -> Told {
@@ -83,9 +108,22 @@ fn unseal_row(words: &[Word<'_>], told: &mut String) -> Told {
     let cdi = cdi.array()?;
     let label = label.at_most(64)?;
     let sealed = sealed.bytes()?;
-    let (locality, mode) = (locality.number()?, mode.number()?);
+    let locality = locality.number_to(255)?;
+    let mode = mode.number_to(255)?;
+    tell_unsealed(&cdi, label, sealed, (locality, mode), told)
+}
+
+fn tell_unsealed(
+    cdi: &[u8; 32],
+    label: &[u8],
+    sealed: &[u8],
+    caller: (u8, u8),
+    told: &mut String,
+) -> Told
+    requires { length label.now ≤ 64 }
+{
     let mut room = [0; 2048];
-    match unseal(&cdi, label, sealed, locality, mode, &mut room) {
+    match unseal(cdi, label, sealed, caller.0, caller.1, &mut room) {
         Ok(len) => show(told, &room[..len]),
         Err(Unopened::Malformed) => put(told, "malformed"),
         Err(Unopened::Refused) => put(told, "refused"),

@@ -2,14 +2,15 @@
 ghost use Rattle.std.specs.Prelude.{◌≤◌, length, IfOk, IfSome};
 ghost use Rattle.dpe_messages.specs.CommandRows.{IsCommandWritable, IsShort};
 
+use crate::fields::{Value, tell_fields};
 use dpe_messages::{
     Command, Config, Derive, Refusal, Seal, Sign, Unseal, read_payload, write_command,
 };
-use table_rows::{RowFault, Told, Word, field, field_or_none, flag, number, put, show};
+use table_rows::{RowFault, Told, Word, field, flag, put, show};
 
 /// Tells the command that a payload asks for, with its arguments, or why it is none.
-pub(crate) fn read(payload: &[u8], told: &mut String) -> Told {
-    match read_payload(payload) {
+pub(crate) fn read(payload: &Word<'_>, told: &mut String) -> Told {
+    match read_payload(payload.bytes()?) {
         Ok(command) => describe(&command, told),
         Err(Refusal::NotACommand) => put(told, "2 not a command"),
         Err(Refusal::BadArguments) => put(told, "3 bad arguments"),
@@ -37,40 +38,46 @@ fn describe_derive(derive: &Derive<'_>, told: &mut String) -> Told {
     let Derive {
         handle,
         code,
+        config,
         authority,
         mode,
         hidden,
-        ..
+        retain,
+        may_derive,
+        locality,
     } = *derive;
-    field(told, "DeriveContext ", handle)?;
-    field(told, " code ", code)?;
-    describe_config(&derive.config, told)?;
-    field(told, " authority ", authority)?;
-    number(told, " mode ", u64::from(mode))?;
-    describe_hidden(hidden, told)?;
-    describe_child(derive, told)
+    let fields = [
+        ("DeriveContext ", Value::Bytes(handle)),
+        (" code ", Value::Bytes(code)),
+        config_field(&config),
+        (" authority ", Value::Bytes(authority)),
+        (" mode ", Value::Number(u64::from(mode))),
+        (" hidden ", hidden_value(hidden)),
+        (" retain ", Value::Flag(retain)),
+        (" may-derive ", Value::Flag(may_derive)),
+        (" locality ", locality_value(locality)),
+    ];
+    tell_fields(&fields, told)
 }
 
-fn describe_config(config: &Config<'_>, told: &mut String) -> Told {
+fn config_field<'a>(config: &Config<'a>) -> (&'static str, Value<'a>) {
     match config {
-        Config::Inline(config) => field(told, " config ", *config),
-        Config::Descriptor(bytes) => field(told, " descriptor ", *bytes),
+        Config::Inline(config) => (" config ", Value::Bytes(*config)),
+        Config::Descriptor(bytes) => (" descriptor ", Value::Bytes(*bytes)),
     }
 }
 
-fn describe_hidden(hidden: Option<&[u8; 64]>, told: &mut String) -> Told {
+fn hidden_value(hidden: Option<&[u8; 64]>) -> Value<'_> {
     match hidden {
-        Some(hidden) => field_or_none(told, " hidden ", Some(hidden)),
-        None => field_or_none(told, " hidden ", None),
+        Some(hidden) => Value::Bytes(hidden),
+        None => Value::Missing,
     }
 }
 
-fn describe_child(derive: &Derive<'_>, told: &mut String) -> Told {
-    flag(told, " retain ", derive.retain)?;
-    flag(told, " may-derive ", derive.may_derive)?;
-    match derive.locality {
-        Some(locality) => number(told, " locality ", u64::from(locality)),
-        None => put(told, " locality none"),
+fn locality_value(locality: Option<u8>) -> Value<'static> {
+    match locality {
+        Some(locality) => Value::Number(u64::from(locality)),
+        None => Value::Missing,
     }
 }
 
@@ -81,10 +88,13 @@ fn describe_sign(sign: &Sign<'_>, told: &mut String) -> Told {
         retain,
         message,
     } = *sign;
-    field(told, "Sign ", handle)?;
-    field(told, " label ", label)?;
-    flag(told, " retain ", retain)?;
-    field(told, " message ", message)
+    let fields = [
+        ("Sign ", Value::Bytes(handle)),
+        (" label ", Value::Bytes(label)),
+        (" retain ", Value::Flag(retain)),
+        (" message ", Value::Bytes(message)),
+    ];
+    tell_fields(&fields, told)
 }
 
 fn describe_seal(seal: &Seal<'_>, told: &mut String) -> Told {
@@ -96,12 +106,15 @@ fn describe_seal(seal: &Seal<'_>, told: &mut String) -> Told {
         modes,
         plain,
     } = *seal;
-    field(told, "Seal ", handle)?;
-    field(told, " label ", label)?;
-    flag(told, " retain ", retain)?;
-    number(told, " localities ", u64::from(localities))?;
-    number(told, " modes ", u64::from(modes))?;
-    field(told, " plain ", plain)
+    let fields = [
+        ("Seal ", Value::Bytes(handle)),
+        (" label ", Value::Bytes(label)),
+        (" retain ", Value::Flag(retain)),
+        (" localities ", Value::Number(u64::from(localities))),
+        (" modes ", Value::Number(u64::from(modes))),
+        (" plain ", Value::Bytes(plain)),
+    ];
+    tell_fields(&fields, told)
 }
 
 fn describe_unseal(unseal: &Unseal<'_>, told: &mut String) -> Told {
@@ -111,10 +124,13 @@ fn describe_unseal(unseal: &Unseal<'_>, told: &mut String) -> Told {
         retain,
         sealed,
     } = *unseal;
-    field(told, "Unseal ", handle)?;
-    field(told, " label ", label)?;
-    flag(told, " retain ", retain)?;
-    field(told, " box ", sealed)
+    let fields = [
+        ("Unseal ", Value::Bytes(handle)),
+        (" label ", Value::Bytes(label)),
+        (" retain ", Value::Flag(retain)),
+        (" box ", Value::Bytes(sealed)),
+    ];
+    tell_fields(&fields, told)
 }
 
 /// Tells the payload that asks for a command.
@@ -203,40 +219,55 @@ fn write_unseal(words: &[Word<'_>], told: &mut String) -> Told {
     written(&Command::Unseal(unseal), told)
 }
 
-fn write_derive(words: &[Word<'_>], told: &mut String) -> Told {
-    let [
-        handle,
-        code,
-        kind,
-        config,
-        authority,
-        mode,
-        hidden,
-        retain,
-        may_derive,
-        locality,
-    ] = words
-    else {
+// What a layer has of just so many bytes.
+#[derive(Clone, Copy)]
+struct Layer {
+    handle: [u8; 16],
+    code: [u8; 64],
+    inline: [u8; 64],
+    authority: [u8; 64],
+    hidden: Option<[u8; 64]>,
+}
+
+fn layer_of(words: &[Word<'_>]) -> Result<Layer, RowFault> {
+    let [handle, code, kind, config, authority, _mode, hidden, ..] = words else {
         return Err(RowFault::Unreadable);
     };
     let handle = handle.array()?;
     let code = code.array()?;
     let inline = inline_of(kind.text, config)?;
-    let descriptor = config.at_most(1024)?;
     let authority = authority.array()?;
-    let hidden: Option<[u8; 64]> = hidden.array_or_none()?;
-    let config = config_of(kind.text, &inline, descriptor);
-    let hidden = hidden.as_ref();
-    let derive = Derive {
-        handle: &handle,
-        code: &code,
-        config,
-        authority: &authority,
-        mode: mode.number_to(3)?,
+    let hidden = hidden.array_or_none()?;
+    Ok(Layer {
+        handle,
+        code,
+        inline,
+        authority,
         hidden,
-        retain: retain.truth()?,
-        may_derive: may_derive.truth()?,
-        locality: locality_or_none(locality)?,
+    })
+}
+
+// `HANDLE CODE KIND CONFIG AUTHORITY MODE HIDDEN RETAIN MAY-DERIVE LOCALITY`.
+fn write_derive(words: &[Word<'_>], told: &mut String) -> Told {
+    let layer = layer_of(words)?;
+    let [_, _, kind, config, _, mode, _, retain, may_derive, locality] = words else {
+        return Err(RowFault::Unreadable);
+    };
+    let descriptor = config.at_most(1024)?;
+    let mode = mode.number_to(3)?;
+    let retain = retain.truth()?;
+    let may_derive = may_derive.truth()?;
+    let locality = locality_or_none(locality)?;
+    let derive = Derive {
+        handle: &layer.handle,
+        code: &layer.code,
+        config: config_of(kind.text, &layer.inline, descriptor),
+        authority: &layer.authority,
+        mode,
+        hidden: layer.hidden.as_ref(),
+        retain,
+        may_derive,
+        locality,
     };
     written(&Command::Derive(derive), told)
 }

@@ -1,4 +1,7 @@
 //! Rows of keyed functions, key streams, CDIs and signatures.
+ghost use Rattle.std.specs.Prelude.{◌≤◌, length};
+
+use crate::fields::{Value, tell_fields};
 use dpe_chacha::apply;
 use dpe_hkdf::{expand, expand_labelled, extract};
 use dpe_hmac::{Hmac, hmac_of};
@@ -6,7 +9,7 @@ use dpe_inputs::{
     Cdis, Count, Input, Unsalted, configuration, first, next, signature, signature_with,
 };
 use std::alloc::Global;
-use table_rows::{RowFault, Told, Word, field, number, show};
+use table_rows::{RowFault, Told, Word, show};
 
 /// The most bytes that HKDF gives of one key.
 const MAX_OUTPUT: usize = 16_320;
@@ -64,14 +67,24 @@ fn hkdf_row(alloc: Global, words: &[Word<'_>], told: &mut String) -> Told {
     let [salt, material, info, len] = words else {
         return Err(RowFault::Unreadable);
     };
-    let prk = match salt.text {
-        "none" => extract(None, material.bytes()?),
-        _ => extract(Some(salt.bytes()?), material.bytes()?),
-    };
+    let prk = extracted(salt, material.bytes()?)?;
     let info = info.bytes()?;
     let len = len.length_to(MAX_OUTPUT)?;
+    tell_expanded(alloc, &prk, info, len, told)
+}
+
+fn extracted(salt: &Word<'_>, material: &[u8]) -> Result<[u8; 64], RowFault> {
+    if salt.text == "none" {
+        return Ok(extract(None, material));
+    }
+    Ok(extract(Some(salt.bytes()?), material))
+}
+
+fn tell_expanded(alloc: Global, prk: &[u8; 64], info: &[u8], len: usize, told: &mut String) -> Told
+    requires { len ≤ MAX_OUTPUT }
+{
     let mut output = vec![in alloc; 0; len]?;
-    expand(&prk, info, &mut output);
+    expand(prk, info, &mut output);
     show(told, &output)
 }
 
@@ -83,8 +96,22 @@ fn labelled_row(alloc: Global, words: &[Word<'_>], told: &mut String) -> Told {
     let purpose = purpose.bytes()?;
     let label = label.at_most(255)?;
     let len = len.length_to(MAX_OUTPUT)?;
+    tell_labelled(alloc, &prk, purpose, label, len, told)
+}
+
+fn tell_labelled(
+    alloc: Global,
+    prk: &[u8; 64],
+    purpose: &[u8],
+    label: &[u8],
+    len: usize,
+    told: &mut String,
+) -> Told
+    requires label { length label.now ≤ 255 }
+    requires len { len ≤ MAX_OUTPUT }
+{
     let mut output = vec![in alloc; 0; len]?;
-    expand_labelled(&prk, purpose, label, &mut output);
+    expand_labelled(prk, purpose, label, &mut output);
     show(told, &output)
 }
 
@@ -133,9 +160,16 @@ fn cdis_row(words: &[Word<'_>], told: &mut String) -> Told {
     for layer in layers.chunks(6) {
         cdis = behind(&cdis, layer, &mut meter)?;
     }
-    field(told, "attest ", &cdis.attest)?;
-    field(told, " seal ", &cdis.seal)?;
-    number(told, " folds ", meter.folds())
+    tell_cdis(&cdis, &meter, told)
+}
+
+fn tell_cdis(cdis: &Cdis, meter: &Count, told: &mut String) -> Told {
+    let fields = [
+        ("attest ", Value::Bytes(&cdis.attest)),
+        (" seal ", Value::Bytes(&cdis.seal)),
+        (" folds ", Value::Number(meter.folds())),
+    ];
+    tell_fields(&fields, told)
 }
 
 // The CDIs behind a layer that comes so many times.

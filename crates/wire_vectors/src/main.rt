@@ -5,6 +5,7 @@
 mod boxes;
 mod commands;
 mod ends;
+mod fields;
 mod frames;
 mod houses;
 mod items;
@@ -36,17 +37,16 @@ fn tell(alloc: Global, words: &[Word<'_>], told: &mut String) -> Told {
     }
 }
 
-// What the call of a row answers.
-fn answer(alloc: Global, names: &Names, row: &str) -> Result<String, RowFault> {
+// Tells what the call of a row answers.
+fn answer(alloc: Global, names: &Names, row: &str, told: &mut String) -> Told {
     let words = words_of(alloc, names, row)?;
-    let mut told = String::new(alloc);
-    tell(alloc, &words, &mut told)?;
-    Ok(told)
+    tell(alloc, &words, told)
 }
 
 fn main(rt: HostRuntime) -> io::Result<()> {
     let alloc = rt.alloc();
     let names = Names::new(alloc);
+    let mut told = String::new(alloc);
     for line in rt.lines(alloc) {
         let line = line?;
         let row = line.as_str();
@@ -54,8 +54,9 @@ fn main(rt: HostRuntime) -> io::Result<()> {
             println!(rt; "{row}")?;
             continue;
         }
-        match answer(alloc, &names, row) {
-            Ok(text) => println!(rt; "{text}")?,
+        told.clear();
+        match answer(alloc, &names, row, &mut told) {
+            Ok(()) => println!(rt; "{told}")?,
             Err(RowFault::Unreadable) => println!(rt; "NOT A ROW: {row}")?,
             Err(RowFault::OutOfMemory) => return Err(io::Error::from(io::ErrorKind::OutOfMemory)),
         }

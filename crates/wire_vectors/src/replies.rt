@@ -37,7 +37,8 @@ fn read_as(asked: &Asked, payload: &[u8], told: &mut String) -> Told {
 }
 
 /// Tells the commands to which a payload is a reply.
-pub(crate) fn asked(payload: &[u8], told: &mut String) -> Told {
+pub(crate) fn asked(payload: &Word<'_>, told: &mut String) -> Told {
+    let payload = payload.bytes()?;
     for (name, asked) in &COMMANDS {
         if read_reply(asked, payload).is_ok() {
             put_name(name, told)?;
