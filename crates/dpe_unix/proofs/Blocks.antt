@@ -1,5 +1,5 @@
 -- A block whose front was handed out.
-use Rattle.std.proofs.Common.{◌≡◌, ℕ, ◌+◌, ◌-◌, ◌*◌, ◌≤◌, List, ◌++◌, length, take, drop, replicate, refl, sym, ap, subst, ◌∙◌, arith, min, take-add}
+use Rattle.std.proofs.Common.{◌≡◌, ℕ, ◌+◌, ◌-◌, ◌*◌, ◌≤◌, List, ◌++◌, length, take, drop, replicate, refl, sym, ap, subst, ◌∙◌, arith, min, take-add, drop-drop}
 use Rattle.std.specs.List.{All}
 use Rattle.std.proofs.lemmas.Grind.{common_steps}
 use Rattle.std.proofs.lemmas.List.Elements.{All-append, All-replicate}
@@ -17,7 +17,7 @@ module _ (block : List ℕ) (place end : ℕ) where
 
 -- A word at this place moves out of a block, and zeros stand there.
 module _ (block now : List ℕ) (place next end : ℕ) (is : now ≡ (take place block ++ replicate 32 0) ++ drop (place + 32) block)
-  (at : next ≡ place + 32) (room : next ≤ end) (fits : end ≤ length block) where
+    (at : next ≡ place + 32) (room : next ≤ end) (fits : end ≤ length block) where
   front_length : length (take place block ++ replicate 32 0) ≡ place + 32
   front_length = grind (arith, common_steps, at, room, fits)
 
@@ -31,10 +31,28 @@ module _ (block now : List ℕ) (place next end : ℕ) (is : now ≡ (take place
   word_first =
       let long : end - place ≡ 32 + (end - next) = omega (arith, at, room) in
       let split = take-add 32 (end - next) (drop place block) in
-      let behind : drop 32 (drop place block) ≡ drop next now = grind (arith, common_steps, at, held_now) in
+      let behind : drop 32 (drop place block) ≡ drop next now = drop-drop 32 place block ∙ sym (ap (λ (n : ℕ). drop n block) at) ∙ sym held_now in
       ap (λ (n : ℕ). take n (drop place block)) long ∙ split
       ∙ ap (λ (rest : List ℕ). take 32 (drop place block) ++ take (end - next) rest) behind
 
   pub still_cleared : IsCleared (take place block) → IsCleared (take next now)
   still_cleared was =
-      subst IsCleared (sym spent_now) (All-append _ _ was (All-replicate 32 0 refl))
+      subst IsCleared (sym spent_now) (All-append (λ (byte : ℕ). byte ≡ 0) (take place block) (replicate 32 0) was (All-replicate (λ (byte : ℕ). byte ≡ 0) 32 0 refl))
+
+-- The first of the words that are held moves out.
+module _ (block now : List ℕ) (taken end : ℕ) (is : now ≡ (take (32 * taken) block ++ replicate 32 0) ++ drop (32 * taken + 32) block)
+    (fits : end ≤ length block) (whole : 32 ≤ length (between block (32 * taken) end)) where
+  at : 32 * (taken + 1) ≡ 32 * taken + 32
+  at = omega arith
+
+  pub one_more_fits : 32 * (taken + 1) ≤ end
+  one_more_fits = omega (arith, whole, held_length block (32 * taken) end fits)
+
+  pub next_word : between block (32 * taken) end ≡ take 32 (drop (32 * taken) block) ++ between now (32 * (taken + 1)) end
+  next_word = word_first block now (32 * taken) (32 * (taken + 1)) end is at one_more_fits fits
+
+  pub next_cleared : IsCleared (take (32 * taken) block) → IsCleared (take (32 * (taken + 1)) now)
+  next_cleared = still_cleared block now (32 * taken) (32 * (taken + 1)) end is at one_more_fits fits
+
+  pub next_spent : take (32 * (taken + 1)) now ≡ take (32 * taken) block ++ replicate 32 0
+  next_spent = spent_now block now (32 * taken) (32 * (taken + 1)) end is at one_more_fits fits

@@ -86,7 +86,11 @@ fn open_entropy<R: Files<File = File>>(rt: &R) -> io::Result<Urandom>
 }
 
 // A door whose socket is made at this path. It fails where a file stands there.
-fn bind_door<R: Files<File = File> + Net>(rt: &R, path: &str, limit: Option<Duration>) -> io::Result<UnixDoor>
+fn bind_door<R: Files<File = File> + Net>(
+    rt: &R,
+    path: &str,
+    limit: Option<Duration>,
+) -> io::Result<UnixDoor>
     ensures { IfOk result (λ door. (door.faults ≡ 0) × (door.limit ≡ limit)) }
 {
     Ok(UnixDoor::new(UnixListener::bind(rt, path)?, limit))

@@ -39,7 +39,10 @@ impl<R: Files<File = File> + Drop> FileShelf<R> {
 }
 
 // A source over the file at this path, with no fault yet.
-fn open_ahead<R: Files<File = File>>(rt: &R, path: &str) -> io::Result<ReadSource<ReadAhead<File, FILE_AHEAD>>>
+fn open_ahead<R: Files<File = File>>(
+    rt: &R,
+    path: &str,
+) -> io::Result<ReadSource<ReadAhead<File, FILE_AHEAD>>>
     ensures { IfOk result (λ source. source.faults ≡ 0) }
 {
     Ok(ReadSource::new(ReadAhead::new(File::open(rt, path)?)))

@@ -67,7 +67,8 @@ impl<R: Read> WordsAhead<R> {
     fn held(&self) -> usize
         ensures { result ≡ length self.now.held }
     {
-        self.end - WORD * self.taken
+        let whole = &self.block[..];
+        whole[WORD * self.taken..self.end].len()
     }
 
     // Asks the reader beneath once for what the block has room for, which is a whole block where nothing is held.

@@ -3,10 +3,10 @@ use crate::files::{byte_at, fails, gives, gives_places, tell};
 use dpe_io::{Door, Sink, Source};
 use dpe_link::{FrameFault, read_frame};
 use dpe_unix::{LINK_AHEAD, UnixDoor, UnixLink};
+use std::fs::{File, Files};
 use std::io::Write;
 use std::net::Net;
 use std::os::unix::net::{UnixListener, UnixStream};
-use std::fs::{File, Files};
 use std::time::Duration;
 
 // Two frames, the second with an empty payload.
@@ -84,7 +84,11 @@ pub(crate) fn try_faulty_frames<P: Print, R: Net>(rt: &P, net: &R) {
             "one that is too long is told",
             sent && fault_of(&mut link) == Some(FrameFault::TooLong { length: 4_097 }),
         );
-        tell(rt, "and what is behind its head is left", gives(&mut link, &[7]));
+        tell(
+            rt,
+            "and what is behind its head is left",
+            gives(&mut link, &[7]),
+        );
     }
     if let Some((near, mut link)) = pair(net, None) {
         let sent = link.write(b"unread") == Ok(6);
@@ -129,10 +133,18 @@ fn writes_in_vain<K: Sink>(sink: &mut K) -> bool {
 pub(crate) fn try_a_limit<P: Print, R: Net>(rt: &P, net: &R) {
     let second = Some(Duration::from_secs(1));
     if let Some((mut near, mut link)) = pair(net, second) {
-        tell(rt, "with a limit a silent end is a failed read", fails(&mut link));
+        tell(
+            rt,
+            "with a limit a silent end is a failed read",
+            fails(&mut link),
+        );
         tell(rt, "which is counted", link.read_faults() == 1);
         let sent = near.write_all(b"late").is_ok();
-        tell(rt, "what comes later is read", sent && gives(&mut link, b"late"));
+        tell(
+            rt,
+            "what comes later is read",
+            sent && gives(&mut link, b"late"),
+        );
         tell(
             rt,
             "an end that reads nothing is a failed write",

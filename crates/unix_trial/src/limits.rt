@@ -53,11 +53,23 @@ fn is_limit(value: &'static [u8], seconds: u64) -> bool {
 
 /// Values that are limits, and values that are none.
 pub(crate) fn try_limits<P: Print>(rt: &P) {
-    tell(rt, "with no variable there is no limit", limit_of(None) == (None, false));
+    tell(
+        rt,
+        "with no variable there is no limit",
+        limit_of(None) == (None, false),
+    );
     tell(rt, "one second is a limit", is_limit(b"1", 1));
     tell(rt, "and a day", is_limit(b"86400", 86_400));
     let faulty: [&'static [u8]; 9] = [
-        b"0", b"86401", b"01", b"+5", b"", b"5 ", b"ten", b"100000000", b"\xff",
+        b"0",
+        b"86401",
+        b"01",
+        b"+5",
+        b"",
+        b"5 ",
+        b"ten",
+        b"100000000",
+        b"\xff",
     ];
     for value in faulty {
         tell(
