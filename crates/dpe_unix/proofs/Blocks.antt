@@ -53,6 +53,3 @@ module _ (block now : List ℕ) (taken end : ℕ) (is : now ≡ (take (32 * take
 
   pub next_cleared : IsCleared (take (32 * taken) block) → IsCleared (take (32 * (taken + 1)) now)
   next_cleared = still_cleared block now (32 * taken) (32 * (taken + 1)) end is at one_more_fits fits
-
-  pub next_spent : take (32 * (taken + 1)) now ≡ take (32 * taken) block ++ replicate 32 0
-  next_spent = spent_now block now (32 * taken) (32 * (taken + 1)) end is at one_more_fits fits

@@ -65,24 +65,23 @@ impl<R: Read> WordsAhead<R> {
 
     // How many bytes are held.
     fn held(&self) -> usize
-        ensures { result ≡ length self.now.held }
+        ensures count { result ≡ length self.now.held }
+        ensures cleared { All (λ byte. byte ≡ 0) self.now.spent }
     {
         let whole = &self.block[..];
         whole[WORD * self.taken..self.end].len()
     }
 
-    // Asks the reader beneath once for what the block has room for, which is a whole block where nothing is held.
+    // Where nothing is held, asks the reader beneath once for a block.
     fn fill(&mut self) -> io::Result<()>
-        requires { length self.old.held < 32 }
+        requires { length self.old.held ≡ 0 }
         ensures bytes { Keeps (prepend_known self.old.held (R.remaining self.old.inner))
             (prepend_known self.new.held (R.remaining self.new.inner)) }
+        ensures spent { self.new.spent ≡ [] }
     {
-        if self.held() == 0 {
-            self.taken = 0;
-            self.end = 0;
-        }
-        let whole = &mut self.block[..];
-        self.end += self.reader.read(&mut whole[self.end..])?;
+        self.taken = 0;
+        self.end = 0;
+        self.end = self.reader.read(&mut self.block)?;
         Ok(())
     }
 
@@ -90,14 +89,14 @@ impl<R: Read> WordsAhead<R> {
     fn give(&mut self, word: &mut [u8; 32])
         requires { 32 ≤ length self.old.held }
         ensures word { GivesWord self.old self.new word.new }
-        ensures cleared { self.new.spent ≡ self.old.spent ++ replicate 32 0 }
+        ensures cleared { All (λ byte. byte ≡ 0) self.new.spent }
     {
         move_word(&mut self.block, WORD * self.taken, word);
         self.taken += 1;
     }
 
-    /// Hands out the next word. Only where none is held it asks the reader beneath, once. It fails where that fails or gives
-    /// less than the rest of a word; then no byte is lost, and the word stays as it was.
+    /// Hands out the next word. Only where nothing is held it asks the reader beneath, once. It fails where that fails, and where
+    /// less than a word is held then: no byte of that is lost, it is never made up to a word, and the word stays as it was.
     pub fn draw(&mut self, word: &mut [u8; 32]) -> io::Result<()>
         ensures held { 32 ≤ length self.old.held → IsOk result × GivesWord self.old self.new word.new }
         ensures bytes { DrawsWord (prepend_known self.old.held (R.remaining self.old.inner))
@@ -105,7 +104,7 @@ impl<R: Read> WordsAhead<R> {
         ensures cleared { All (λ byte. byte ≡ 0) self.new.spent }
         ensures untouched { OnErr result (word.new ≡ word.old) }
     {
-        if self.held() < WORD {
+        if self.held() == 0 {
             self.fill()?;
         }
         if self.held() < WORD {
