@@ -5,14 +5,15 @@ mod manual;
 
 use dpe_io::WriteSink;
 use dpe_script::client_main;
-use dpe_unix::{FileDock, run_program};
+use dpe_unix::{FileDock, idle_limit, run_program};
 use manual::MANUAL;
 use std::process::ExitCode;
 
 fn main(rt: HostRuntime) -> ExitCode {
     let mut errors = WriteSink::new(rt.stderr());
+    let limit = idle_limit(&rt, &mut errors, &MANUAL);
     run_program(&rt, &mut errors, &MANUAL, |words| {
-        let mut dock = FileDock::new(rt);
+        let mut dock = FileDock::new(rt, limit);
         // Each line goes out in one call, as soon as its reply is there.
         let mut out = WriteSink::new(rt.stdout());
         client_main(rt.alloc(), words, &mut dock, &mut out)

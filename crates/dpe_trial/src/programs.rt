@@ -35,14 +35,14 @@ pub(crate) fn text(printed: &MemSink) -> &str {
 
 /// Runs the server, which prints its summary once all its clients have gone.
 pub(crate) fn serve<R: Threads + Wait + Sync>(rt: &R, host: HostRuntime, words: &[&str]) -> u8 {
-    let mut house = UnixHouse::new(host);
+    let mut house = UnixHouse::new(host, None);
     let mut out = WriteSink::new(host.stdout());
     serve_main(rt, host.alloc(), words, &mut house, &mut out)
 }
 
 /// Runs the client.
 pub(crate) fn ask(host: HostRuntime, words: &[&str], out: &mut MemSink) -> u8 {
-    let mut dock = FileDock::new(host);
+    let mut dock = FileDock::new(host, None);
     client_main(host.alloc(), words, &mut dock, out)
 }
 

@@ -1,4 +1,5 @@
 pub mod Ahead
 pub mod Counts
 pub mod Ended
+pub mod Limit
 pub mod Report

@@ -14,6 +14,7 @@ use std::marker::Model;
 use std::net::Net;
 use std::os::unix::fs::OpenOptionsExt;
 use std::os::unix::net::UnixListener;
+use std::time::Duration;
 
 /// The file that gives random bytes.
 const RANDOM_FILE: &str = "/dev/urandom";
@@ -21,10 +22,11 @@ const RANDOM_FILE: &str = "/dev/urandom";
 /// The journal's permissions: its owner reads and writes it, and nobody else.
 const JOURNAL_MODE: u32 = 0o600;
 
-/// A house over files and Unix sockets.
+/// A house over files and Unix sockets, whose doors give their connections its limit.
 #[derive(Drop)]
 pub struct UnixHouse<R: Files<File = File> + Net + Drop> {
     rt: R,
+    limit: Option<Duration>,
     seeds: Openings,
     journals: Openings,
     entropies: Openings,
@@ -41,21 +43,24 @@ impl<R: Files<File = File> + Net + Drop> Model for UnixHouse<R> {
       journals = h.journals;
       entropies = h.entropies;
       doors = h.doors;
+      limit = h.limit;
     } };
 }
 
 impl<R: Files<File = File> + Net + Drop> UnixHouse<R> {
     /// A house of which nothing was opened yet.
-    pub fn new(rt: R) -> UnixHouse<R>
+    pub fn new(rt: R, limit: Option<Duration>) -> UnixHouse<R>
         ensures { result ≡ record {
           seeds = no_counts;
           journals = no_counts;
           entropies = no_counts;
           doors = no_counts;
+          limit = limit;
         } }
     {
         UnixHouse {
             rt,
+            limit,
             seeds: Openings::new(),
             journals: Openings::new(),
             entropies: Openings::new(),
@@ -81,10 +86,14 @@ fn open_entropy<R: Files<File = File>>(rt: &R) -> io::Result<Urandom>
 }
 
 // A door whose socket is made at this path. It fails where a file stands there.
-fn bind_door<R: Files<File = File> + Net>(rt: &R, path: &str) -> io::Result<UnixDoor>
-    ensures { IfOk result (λ door. door.faults ≡ 0) }
+fn bind_door<R: Files<File = File> + Net>(
+    rt: &R,
+    path: &str,
+    limit: Option<Duration>,
+) -> io::Result<UnixDoor>
+    ensures { IfOk result (λ door. (door.faults ≡ 0) × (door.limit ≡ limit)) }
 {
-    Ok(UnixDoor::new(UnixListener::bind(rt, path)?))
+    Ok(UnixDoor::new(UnixListener::bind(rt, path)?, limit))
 }
 
 impl<R: Files<File = File> + Net + Drop> House for UnixHouse<R> {
@@ -112,6 +121,7 @@ impl<R: Files<File = File> + Net + Drop> House for UnixHouse<R> {
         ensures entropies { self.new.entropies ≡ self.old.entropies }
         ensures doors { self.new.doors ≡ self.old.doors }
         ensures counts { CountsOne self.old.seeds.failed self.new.seeds.failed result }
+        ensures limit { self.new.limit ≡ self.old.limit }
     {
         self.seeds.count(open_source(&self.rt, path))
     }
@@ -124,6 +134,7 @@ impl<R: Files<File = File> + Net + Drop> House for UnixHouse<R> {
         ensures entropies { self.new.entropies ≡ self.old.entropies }
         ensures doors { self.new.doors ≡ self.old.doors }
         ensures counts { CountsOne self.old.journals.failed self.new.journals.failed result }
+        ensures limit { self.new.limit ≡ self.old.limit }
     {
         self.journals.count(create_journal(&self.rt, path))
     }
@@ -136,6 +147,7 @@ impl<R: Files<File = File> + Net + Drop> House for UnixHouse<R> {
         ensures journals { self.new.journals ≡ self.old.journals }
         ensures doors { self.new.doors ≡ self.old.doors }
         ensures counts { CountsOne self.old.entropies.failed self.new.entropies.failed result }
+        ensures limit { self.new.limit ≡ self.old.limit }
     {
         self.entropies.count(open_entropy(&self.rt))
     }
@@ -145,12 +157,14 @@ impl<R: Files<File = File> + Net + Drop> House for UnixHouse<R> {
     fn door(&mut self, path: &str) -> Result<UnixDoor, Failed>
         ensures opens { IsOpening (untold self.old.doors) (untold self.new.doors) result }
         ensures faultless { IfOk result (λ door. door.faults ≡ 0) }
+        ensures waits { IfOk result (λ door. door.limit ≡ self.old.limit) }
         ensures seeds { self.new.seeds ≡ self.old.seeds }
         ensures journals { self.new.journals ≡ self.old.journals }
         ensures entropies { self.new.entropies ≡ self.old.entropies }
         ensures counts { CountsOne self.old.doors.failed self.new.doors.failed result }
+        ensures limit { self.new.limit ≡ self.old.limit }
     {
-        self.doors.count(bind_door(&self.rt, path))
+        self.doors.count(bind_door(&self.rt, path, self.limit))
     }
 
     /// Closes the seed.
@@ -161,6 +175,7 @@ impl<R: Files<File = File> + Net + Drop> House for UnixHouse<R> {
         ensures entropies { self.new.entropies ≡ self.old.entropies }
         ensures doors { self.new.doors ≡ self.old.doors }
         ensures counts { CountsBack seed.faults self.old.seeds.faults self.new.seeds.faults }
+        ensures limit { self.new.limit ≡ self.old.limit }
     {
         self.seeds.take_back(seed)
     }
@@ -173,6 +188,7 @@ impl<R: Files<File = File> + Net + Drop> House for UnixHouse<R> {
         ensures journals { self.new.journals ≡ self.old.journals }
         ensures doors { self.new.doors ≡ self.old.doors }
         ensures counts { CountsBack entropy self.old.entropies.faults self.new.entropies.faults }
+        ensures limit { self.new.limit ≡ self.old.limit }
     {
         self.entropies.take_back(entropy)
     }
@@ -185,6 +201,7 @@ impl<R: Files<File = File> + Net + Drop> House for UnixHouse<R> {
         ensures journals { self.new.journals ≡ self.old.journals }
         ensures entropies { self.new.entropies ≡ self.old.entropies }
         ensures counts { CountsBack door.faults self.old.doors.faults self.new.doors.faults }
+        ensures limit { self.new.limit ≡ self.old.limit }
     {
         self.doors.take_back(door)
     }
@@ -197,6 +214,7 @@ impl<R: Files<File = File> + Net + Drop> House for UnixHouse<R> {
         ensures entropies { self.new.entropies ≡ self.old.entropies }
         ensures doors { self.new.doors ≡ self.old.doors }
         ensures counts { CountsBack journal.faults self.old.journals.faults self.new.journals.faults }
+        ensures limit { self.new.limit ≡ self.old.limit }
     {
         self.journals.take_back(journal)
     }

@@ -2,38 +2,53 @@ ghost use Rattle.std.specs.Prelude.{◌≡◌, ◌<◌, ◌≤◌, length, None,
 ghost use Rattle.std.specs.Io.{ReadsAtMost};
 ghost use Rattle.dpe_io.specs.Causes.{HasCause, CountsOne};
 
+use crate::ahead::{LINK_AHEAD, ReadAhead};
+use crate::limit::limit_waits;
 use dpe_io::{Duplex, Failed, Sink, Source};
-use std::io::{Read, Write};
+use std::io::{self, Read, Write};
 use std::marker::Model;
 use std::os::unix::net::UnixStream;
+use std::time::Duration;
 
-/// A two-way object over a Unix stream, which answers `Failed` at each error of std, of whatever kind, and counts it. Bytes go
-/// out in the call that writes them. Where it is dropped, the stream is closed.
+/// A two-way object over a Unix stream, which answers `Failed` at each error of std, of whatever kind, and counts it. What has
+/// come in is read ahead; bytes go out in the call that writes them. No read and no write waits past the limit, where there is
+/// one. Where it is dropped, the stream is closed.
 #[derive(Drop)]
 pub struct UnixLink {
-    stream: UnixStream,
+    stream: ReadAhead<UnixStream, LINK_AHEAD>,
+    limit: Option<Duration>,
     reads: u64,
     writes: u64,
 }
 
 impl Model for UnixLink {
-    ghost use Rattle.dpe_unix.specs.Counts.{Faults};
+    ghost use Rattle.dpe_unix.specs.Counts.{OfLink};
 
-    ghost Value = { Faults };
+    ghost Value = { OfLink };
 
-    ghost view = { λ l. record { reads = l.reads; writes = l.writes } };
+    ghost view = { λ l. record { reads = l.reads; writes = l.writes; limit = l.limit } };
 }
 
 impl UnixLink {
-    /// A link over this stream, with no fault yet.
-    pub fn new(stream: UnixStream) -> UnixLink
-        ensures { result ≡ record { reads = 0; writes = 0 } }
+    /// A link over this stream, with no fault yet, whose reads and writes wait no longer than the limit. It fails where the
+    /// system takes no limit.
+    pub fn new(stream: UnixStream, limit: Option<Duration>) -> io::Result<UnixLink>
+        ensures { IfOk result (λ link. link ≡ record { reads = 0; writes = 0; limit = limit }) }
     {
-        UnixLink {
-            stream,
+        limit_waits(&stream, limit)?;
+        Ok(UnixLink {
+            stream: ReadAhead::new(stream),
+            limit,
             reads: 0,
             writes: 0,
-        }
+        })
+    }
+
+    /// How long a read or a write may wait, where there is a limit.
+    pub fn limit(&self) -> Option<Duration>
+        ensures { result ≡ self.now.limit }
+    {
+        self.limit
     }
 
     /// How many reads failed; the count stops at 2^64 - 1.
@@ -62,6 +77,7 @@ impl Source for UnixLink {
         ensures bound { ReadsAtMost result room.new }
         ensures cause { HasCause self.old.reads self.new.reads result }
         ensures beside { self.new.writes ≡ self.old.writes }
+        ensures limit { self.new.limit ≡ self.old.limit }
         ensures counts { CountsOne self.old.reads self.new.reads result }
     {
         match self.stream.read(room) {
@@ -86,6 +102,7 @@ impl Sink for UnixLink {
         ensures progress { IfOk result (λ count. 0 < length piece.now → 0 < count) }
         ensures cause { HasCause self.old.writes self.new.writes result }
         ensures beside { self.new.reads ≡ self.old.reads }
+        ensures limit { self.new.limit ≡ self.old.limit }
         ensures counts { CountsOne self.old.writes self.new.writes result }
     {
         match self.stream.write(piece) {
@@ -100,6 +117,7 @@ impl Sink for UnixLink {
     fn flush(&mut self) -> Result<(), Failed>
         ensures cause { HasCause self.old.writes self.new.writes result }
         ensures beside { self.new.reads ≡ self.old.reads }
+        ensures limit { self.new.limit ≡ self.old.limit }
         ensures counts { CountsOne self.old.writes self.new.writes result }
     {
         match self.stream.flush() {

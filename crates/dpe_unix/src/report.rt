@@ -35,8 +35,8 @@ fn print_both<K: Sink>(out: &mut K, first: &[u8], second: &[u8]) -> Result<(), F
     }
 }
 
-// Writes a line that begins with the program's name.
-fn print_line<K: Sink>(out: &mut K, name: &str, sentence: &str) -> Result<(), Failed>
+/// Writes a line that begins with the program's name.
+pub(crate) fn print_line<K: Sink>(out: &mut K, name: &str, sentence: &str) -> Result<(), Failed>
     ensures ok { OnOk result (Appends (K.bytes out.old) (K.bytes out.new) (line name.now sentence.now)) }
     ensures cause { HasCause (K.faults out.old) (K.faults out.new) result }
 {

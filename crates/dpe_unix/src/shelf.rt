@@ -4,7 +4,7 @@ ghost use Rattle.dpe_io.specs.Memory.{CountsBack};
 ghost use Rattle.dpe_io.specs.Told.{IsOpening, Returns};
 ghost use Rattle.dpe_unix.specs.Counts.{untold, no_counts};
 
-use crate::ahead::ReadAhead;
+use crate::ahead::{FILE_AHEAD, ReadAhead};
 use crate::openings::Openings;
 use dpe_io::{Failed, ReadSource, Shelf};
 use std::fs::{File, Files};
@@ -39,19 +39,22 @@ impl<R: Files<File = File> + Drop> FileShelf<R> {
 }
 
 // A source over the file at this path, with no fault yet.
-fn open_ahead<R: Files<File = File>>(rt: &R, path: &str) -> io::Result<ReadSource<ReadAhead<File>>>
+fn open_ahead<R: Files<File = File>>(
+    rt: &R,
+    path: &str,
+) -> io::Result<ReadSource<ReadAhead<File, FILE_AHEAD>>>
     ensures { IfOk result (λ source. source.faults ≡ 0) }
 {
     Ok(ReadSource::new(ReadAhead::new(File::open(rt, path)?)))
 }
 
 impl<R: Files<File = File> + Drop> Shelf for FileShelf<R> {
-    type File = ReadSource<ReadAhead<File>>;
+    type File = ReadSource<ReadAhead<File, FILE_AHEAD>>;
 
     ghost files = { λ s. untold s };
 
     /// Opens the file at this path.
-    fn file(&mut self, path: &str) -> Result<ReadSource<ReadAhead<File>>, Failed>
+    fn file(&mut self, path: &str) -> Result<ReadSource<ReadAhead<File, FILE_AHEAD>>, Failed>
         ensures opens { IsOpening (untold self.old) (untold self.new) result }
         ensures faultless { IfOk result (λ file. file.faults ≡ 0) }
         ensures counts { CountsOne self.old.failed self.new.failed result }
@@ -60,7 +63,7 @@ impl<R: Files<File = File> + Drop> Shelf for FileShelf<R> {
     }
 
     /// Closes a file.
-    fn take_file(&mut self, _place: u32, file: ReadSource<ReadAhead<File>>)
+    fn take_file(&mut self, _place: u32, file: ReadSource<ReadAhead<File, FILE_AHEAD>>)
         requires { 1 ≤ self.old.out }
         ensures back { Returns (untold self.old) file.faults file (untold self.new) }
         ensures counts { CountsBack file.faults self.old.faults self.new.faults }

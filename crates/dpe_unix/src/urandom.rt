@@ -1,16 +1,16 @@
 ghost use Rattle.std.specs.Prelude.{◌≡◌};
 ghost use Rattle.dpe_io.specs.Causes.{HasCause, CountsOne};
 
+use crate::words_ahead::WordsAhead;
 use dpe_io::{Entropy, Failed};
 use std::fs::File;
-use std::io::Read;
 use std::marker::Model;
 
-/// An entropy over `/dev/urandom`, or any file that gives random bytes. It answers `Failed` where std can't fill a whole word,
-/// and counts it.
+/// An entropy over `/dev/urandom`, or any file that gives random bytes. It draws a block at once, and hands out
+/// each word of it once. It answers `Failed` where no whole word comes, and counts it.
 #[derive(Drop)]
 pub struct Urandom {
-    file: File,
+    words: WordsAhead<File>,
     faults: u64,
 }
 
@@ -27,7 +27,10 @@ impl Urandom {
     pub fn new(file: File) -> Urandom
         ensures { result ≡ 0 }
     {
-        Urandom { file, faults: 0 }
+        Urandom {
+            words: WordsAhead::new(file),
+            faults: 0,
+        }
     }
 
     /// How many draws failed; the count stops at 2^64 - 1.
@@ -49,7 +52,7 @@ impl Entropy for Urandom {
         ensures cause { HasCause self.old self.new result }
         ensures counts { CountsOne self.old self.new result }
     {
-        match self.file.read_exact(room) {
+        match self.words.draw(room) {
             Ok(()) => Ok(()),
             Err(_) => {
                 self.faults = self.faults.saturating_add(1);

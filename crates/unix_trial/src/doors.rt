@@ -57,8 +57,8 @@ where
     P: Print,
     R: Files<File = File> + Net + Copy + Drop,
 {
-    let mut house = UnixHouse::new(net);
-    let mut dock = FileDock::new(net);
+    let mut house = UnixHouse::new(net, None);
+    let mut dock = FileDock::new(net, None);
     tell(
         rt,
         "nobody listens before a door is there",
@@ -89,7 +89,7 @@ where
         return;
     };
     if listener.set_nonblocking(true).is_ok() {
-        let mut door = UnixDoor::new(listener);
+        let mut door = UnixDoor::new(listener, None);
         tell(rt, "a failed accept is told", door.next().is_err());
         tell(rt, "and counted", door.faults() == 1);
     }

@@ -1,5 +1,5 @@
 use dpe_io::{Dock, Entropy, Failed, House, Shelf, Sink, Source};
-use dpe_unix::{AHEAD, FileDock, FileShelf, UnixHouse, Urandom};
+use dpe_unix::{FILE_AHEAD, FileDock, FileShelf, UnixHouse, Urandom};
 use std::fs::{self, File, Files};
 use std::net::Net;
 use std::os::unix::fs::PermissionsExt;
@@ -31,7 +31,7 @@ where
     P: Print,
     R: Files<File = File> + Net + Copy + Drop,
 {
-    let mut house = UnixHouse::new(files);
+    let mut house = UnixHouse::new(files, None);
     tell(
         rt,
         "a seed that isn't there can't be opened",
@@ -64,7 +64,7 @@ where
     P: Print,
     R: Files<File = File> + Net + Copy + Drop,
 {
-    let mut house = UnixHouse::new(files);
+    let mut house = UnixHouse::new(files, None);
     if let Ok(mut journal) = house.journal("journal") {
         tell(rt, "a journal takes bytes", journal.write(b"abc") == Ok(3));
         tell(rt, "and a flush", journal.flush() == Ok(()));
@@ -94,7 +94,7 @@ where
     P: Print,
     R: Files<File = File> + Net + Copy + Drop,
 {
-    let mut house = UnixHouse::new(files);
+    let mut house = UnixHouse::new(files, None);
     let (mut first, mut second) = ([0; 32], [0; 32]);
     if let Ok(mut entropy) = house.entropy() {
         let drawn = entropy.draw(&mut first).is_ok() && entropy.draw(&mut second).is_ok();
@@ -122,13 +122,54 @@ where
     }
 }
 
+// Whether an entropy gives the words of a file of places, so many of them, and then fails.
+fn gives_words(entropy: &mut Urandom, words: usize) -> bool {
+    let mut word = [0; 32];
+    for number in 0..words {
+        if entropy.draw(&mut word).is_err() {
+            return false;
+        }
+        for (place, byte) in word.iter().enumerate() {
+            if *byte != byte_at(number * 32 + place) {
+                return false;
+            }
+        }
+    }
+    entropy.draw(&mut word).is_err() && entropy.faults() == 1
+}
+
+/// Words of two blocks and a half: each comes once and in order, over the blocks' ends too.
+pub(crate) fn try_blocks<P, R>(rt: &P, files: R)
+where
+    P: Print,
+    R: Files<File = File> + Copy + Drop,
+{
+    let mut bytes = [0; 10_240];
+    for (place, byte) in bytes.iter_mut().enumerate() {
+        *byte = byte_at(place);
+    }
+    tell(
+        rt,
+        "a file of 320 words is written",
+        fs::write(&files, "words", bytes.as_slice()).is_ok(),
+    );
+    if let Ok(file) = File::open(&files, "words") {
+        let mut entropy = Urandom::new(file);
+        tell(
+            rt,
+            "each of its words comes once, in order, and then no other",
+            gives_words(&mut entropy, 320),
+        );
+    }
+}
+
 /// A script.
 pub(crate) fn try_a_script<P, R>(rt: &P, files: R)
 where
     P: Print,
     R: Files<File = File> + Net + Copy + Drop,
 {
-    let mut dock = FileDock::new(files);
+    let mut dock = FileDock::new(files, None);
     tell(
         rt,
         "a script is written",
@@ -141,13 +182,13 @@ where
     }
 }
 
-// A byte that tells its place among many.
-fn byte_at(place: usize) -> u8 {
+/// A byte that tells its place among many.
+pub(crate) fn byte_at(place: usize) -> u8 {
     (place % 251) as u8
 }
 
-// Whether a file gives just the bytes at the places below this one, and then its end.
-fn gives_places<S: Source>(file: &mut S, end: usize) -> bool {
+/// Whether a source gives just the bytes at the places below this one, and then its end.
+pub(crate) fn gives_places<S: Source>(file: &mut S, end: usize) -> bool {
     let mut room = [0; 1_000];
     let mut place = 0;
     for _ in 0..100 {
@@ -170,7 +211,7 @@ where
     P: Print,
     R: Files<File = File> + Copy + Drop,
 {
-    let mut bytes = [0; AHEAD + 1_000];
+    let mut bytes = [0; FILE_AHEAD + 1_000];
     for (place, byte) in bytes.iter_mut().enumerate() {
         *byte = byte_at(place);
     }

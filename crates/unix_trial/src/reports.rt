@@ -2,7 +2,7 @@ use dpe_io::{Sink, WriteSink};
 use dpe_unix::{Cause, Manual, tell};
 use std::io::Write;
 
-const MANUAL: Manual = Manual {
+pub(crate) const MANUAL: Manual = Manual {
     name: "dpe_trial",
     usage: "usage: dpe_trial SEED\nexample: dpe_trial seed\n",
     causes: &[
