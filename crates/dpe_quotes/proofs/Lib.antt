@@ -1,0 +1,3 @@
+mod Refusing
+mod Folding
+mod Whole

@@ -1,0 +1,4 @@
+pub mod Quotes
+pub mod Reading
+pub mod Claimed
+pub mod Verdicts

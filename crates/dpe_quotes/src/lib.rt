@@ -1,0 +1,10 @@
+//! Quotes: symmetric evidence of what was booted. A quote is a nonce, a claimed path, and the tag that a Sign under the
+//! label `DPE-QUOTE` gave for the nonce; a holder of the seed checks it. Nothing here takes memory.
+#![tactic(auto)]
+
+mod parts;
+mod verifying;
+mod writing;
+
+pub use verifying::{QuoteFault, verify};
+pub use writing::write_quote;
