@@ -1,3 +1,5 @@
 mod Refusing
 mod Folding
 mod Whole
+mod Written
+mod Spelling

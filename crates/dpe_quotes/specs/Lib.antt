@@ -2,3 +2,4 @@ pub mod Quotes
 pub mod Reading
 pub mod Claimed
 pub mod Verdicts
+pub mod Words

@@ -1,6 +1,5 @@
 -- Quotes: symmetric evidence of what was booted.
-use Rattle.std.specs.Prelude.{◌≡◌, ℕ, ◌≤◌, List, [], ◌∷◌, length, codes}
-use Rattle.std.specs.List.{AllByRecursion}
+use Rattle.std.specs.Prelude.{◌≡◌, ℕ, ◌≤◌, List, [], ◌∷◌, length, codes, All}
 use Rattle.dpe_cbor.specs.Item.{Item, uint, bytes, array, Items, no_items, item}
 use Rattle.dpe_cbor.specs.Encoding.{encoding}
 use Rattle.dpe_inputs.specs.declared.Input.{Input}
@@ -28,7 +27,7 @@ pub record IsQuote (q : Quote) : Type 0 where
   pub least : 8 ≤ length q.nonce
   pub most : length q.nonce ≤ 64
   pub depth : length q.path ≤ depth_limit
-  pub inputs : AllByRecursion IsInput q.path
+  pub inputs : All IsInput q.path
   pub tag : length q.tag ≡ 64
 
 -- an input is the array of its code, configuration, authority, mode and hidden input

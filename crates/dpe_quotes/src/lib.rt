@@ -4,6 +4,7 @@
 
 mod parts;
 mod verifying;
+mod words;
 mod writing;
 
 pub use verifying::{QuoteFault, verify};
