@@ -1,5 +1,5 @@
 -- A path that is read and folded, input by input.
-use Rattle.std.proofs.Common.{◌≡◌, ℕ, zero, suc, ◌+◌, ◌-◌, ◌<◌, ◌≤◌, List, [], ◌∷◌, ◌++◌, length, Result, Ok, Err, refl, sym, ap, ◌∙◌, append_assoc, append-nil, arith}
+use Rattle.std.proofs.Common.{◌≡◌, ℕ, zero, suc, ◌+◌, ◌-◌, ◌<◌, ◌≤◌, List, [], ◌∷◌, ◌++◌, length, Ok, Err, refl, sym, ap, ◌∙◌, append_assoc, append-nil, arith}
 use Rattle.dpe_cbor.specs.Source.{Source}
 use Rattle.dpe_inputs.specs.declared.Input.{Input}
 use Rattle.dpe_inputs.specs.Cdi.{attest_cdi, attest_step}

@@ -3,3 +3,4 @@ mod Folding
 mod Whole
 mod Written
 mod Spelling
+mod Ending

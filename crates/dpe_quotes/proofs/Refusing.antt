@@ -1,5 +1,5 @@
 -- A part that is read, but isn't as asked.
-use Rattle.std.proofs.Common.{◌≡◌, ◌≢◌, ℕ, ◌+◌, ◌-◌, Bool, true, false, cond, List, [], length, Option, Some, None, Ok, Err, refl, sym, ap, ◌∙◌}
+use Rattle.std.proofs.Common.{◌≡◌, ◌≢◌, ℕ, ◌+◌, ◌-◌, Bool, false, cond, List, [], length, Option, Some, None, Ok, Err, refl, sym, ap, ◌∙◌}
 use Rattle.dpe_cbor.specs.Source.{Source}
 use Rattle.dpe_cbor.specs.Heads.{head_at}
 use Rattle.dpe_cbor.specs.Decoding.{argument_of, content_of}

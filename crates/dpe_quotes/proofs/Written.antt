@@ -14,9 +14,9 @@ use Rattle.dpe_quotes.specs.Quotes.{Quote, input_item, input_items, quote_bytes}
 
 pub head_short : (major n : ℕ) → n < 256 → length (head major n) ≤ 2
 head_short major n lt = elim (cases_lt n 24) [
-    | inl few ↦ omega (arith, head_len_1 major n few)
-    | inr many ↦ omega (arith, head_len_2 major n many lt)
-  ]
+  | inl few ↦ omega (arith, head_len_1 major n few)
+  | inr many ↦ omega (arith, head_len_2 major n many lt)
+]
 
 pub count_is : (path : List Input) → item_count (input_items path) ≡ length path
 count_is [] = refl
@@ -45,5 +45,5 @@ pub quote_written : (a b c d e : Writer) (q : Quote) → Appends a b (head 4 3) 
 unfolding quote_bytes
 quote_written a b c d e q one two three four =
     let path : Appends c d (head 4 (item_count (input_items q.path)) ++ items_encoding (input_items q.path)) =
-        subst (λ (n : ℕ). Appends c d (head 4 n ++ items_encoding (input_items q.path))) (sym (count_is q.path)) three in
+    subst (λ (n : ℕ). Appends c d (head 4 n ++ items_encoding (input_items q.path))) (sym (count_is q.path)) three in
     Appends-then a b e _ _ one (Appends-then b c e _ _ two (Appends-then c d e _ _ path (Appends-then d e e _ _ four (Appends-none e))))

@@ -3,3 +3,5 @@ pub mod Reading
 pub mod Claimed
 pub mod Verdicts
 pub mod Words
+pub mod Stored
+pub mod Ends

@@ -1,7 +1,7 @@
 -- A quote, read part by part: what is found, or the place of the first part that isn't as asked.
 use Rattle.std.specs.Prelude.{◌≡◌, ◌≤◌, ℕ, zero, suc, ◌+◌, ◌-◌, ◌==◌, Bool, ◌&&◌, nat_le, if◌then◌else◌, List, [], ◌∷◌, length, Option, Some, None, Result, Ok, Err}
 use Rattle.dpe_cbor.specs.Source.{Source}
-use Rattle.dpe_cbor.specs.Decoding.{Decoder, argument_of, content_of}
+use Rattle.dpe_cbor.specs.Decoding.{argument_of, content_of}
 use Rattle.dpe_cbor.specs.declared.reader.NotDeterministic.{NotDeterministic}
 use Rattle.dpe_inputs.specs.declared.Input.{Input}
 use Rattle.dpe_quotes.specs.Quotes.{Quote, depth_limit}

@@ -3,9 +3,12 @@
 #![tactic(auto)]
 
 mod parts;
+mod program;
+mod stored;
 mod verifying;
 mod words;
 mod writing;
 
+pub use program::quote_main;
 pub use verifying::{QuoteFault, verify};
 pub use writing::write_quote;

@@ -100,9 +100,7 @@ fn read_digest<'a>(reader: &mut Reader<'a>) -> Result<&'a [u8], NotDeterministic
 }
 
 /// Reads an input.
-pub(crate) fn read_input<'a>(
-    reader: &mut Reader<'a>,
-) -> Result<ClaimedInput<'a>, NotDeterministic>
+pub(crate) fn read_input<'a>(reader: &mut Reader<'a>) -> Result<ClaimedInput<'a>, NotDeterministic>
     ensures read { told claimed result reader.new ≡ input_in reader.old }
     ensures place { Within reader.old result reader.new }
 {

@@ -1,4 +1,4 @@
-use Rattle.std.proofs.Common.{◌≡◌, [], take, length, sym, ap, subst, ◌++◌, ◌∙◌, arith}
+use Rattle.std.proofs.Common.{◌≡◌, [], take, length, sym, subst, ◌++◌, arith}
 use Rattle.std.proofs.lemmas.List.{take_all}
 use Rattle.dpe_cbor.specs.Encoding.{head, items_encoding}
 use Rattle.dpe_cbor.specs.Written.{Appends}
@@ -11,8 +11,7 @@ use Rattle.dpe_quotes.proofs.writing.put_path.Goals as goal
 pub loop-input-preserved : goal.loop-input-preserved
 loop-input-preserved c =
     let blank : Input = record { code = []; config = []; authority = []; mode = 0; hidden = [] } in
-    let more = one_more_input c.args.path.now c.loop-input.input-index blank c.loop-input-test.true in
-    (
+    let more = one_more_input c.args.path.now c.loop-input.input-index blank c.loop-input-test.true in (
       subst (Appends c.put_path_head.new.writer c.put_input.new.writer) (sym more)
           (Appends-then _ _ c.put_input.new.writer _ _ c.loop-input.invariant.0 c.put_input.ensures.written),
       omega (arith, c.loop-input.invariant.1, c.put_input.ensures.len),

@@ -1,4 +1,4 @@
-use Rattle.std.proofs.Common.{◌++◌, length, length-append, arith}
+use Rattle.std.proofs.Common.{length, length-append, arith}
 use Rattle.dpe_cbor.specs.Encoding.{head}
 use Rattle.dpe_quotes.proofs.Written.{OnOk-at, head_short}
 use Rattle.dpe_quotes.proofs.writing.put_string.Goals as goal
