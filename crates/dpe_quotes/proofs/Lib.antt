@@ -1,0 +1,6 @@
+mod Refusing
+mod Folding
+mod Whole
+mod Written
+mod Spelling
+mod Ending
