@@ -11,6 +11,7 @@ use std::rt::Env;
 use std::time::Duration;
 
 // The variable's value, where it is there.
+#[derive(Drop)]
 struct OneVariable(Option<&'static [u8]>);
 
 impl Env for OneVariable {
