@@ -17,7 +17,7 @@ from dataclasses import dataclass, field
 from pathlib import Path
 
 HERE = Path(__file__).parent.resolve()
-PROGRAMS = "dpe_server", "dpe_client", "dpe_replay", "dpe_batch", "dpe_ratchet", "dpe_vault"
+PROGRAMS = "dpe_server", "dpe_client", "dpe_replay", "dpe_batch", "dpe_ratchet", "dpe_vault", "dpe_quote"
 WANT_OF_MEMORY, PATIENCE_SECONDS = 3, 60
 INITIALIZE, PROFILE = (bytes.fromhex(f"0000000682004382{number}a0") for number in ("07", "01"))
 TAPE = b"".join(bytes(33) + frame for frame in (INITIALIZE, PROFILE))
@@ -128,6 +128,7 @@ def runs():
         yield Run(["dpe_replay", *words, "journal", *last], files=seed | {"journal": JOURNAL})
     yield Run(["dpe_ratchet", "seal", "00" * 32, "5", "5", "", "00" * 16], b"data")
     yield Run(["dpe_vault", "4"], bytes.fromhex("0003000000"))
+    yield Run(["dpe_quote", "make", "00" * 8, "00" * 64])
     yield Run(["dpe_client", "script", "../server/door"], files={"script": SCRIPT}, server=True)
     yield Run(["dpe_client", "bad", "../server/door"], files={"bad": b"0 open\n"})
     yield Run(["dpe_server", "seed", "journal", "1", "16", "1", "0:door"], files=seed, beside=connect)

@@ -4,3 +4,4 @@ mod Whole
 mod Written
 mod Spelling
 mod Ending
+mod Signing

@@ -5,3 +5,4 @@ pub mod Verdicts
 pub mod Words
 pub mod Stored
 pub mod Ends
+pub mod Laws

@@ -2,6 +2,7 @@
 //! label `DPE-QUOTE` gave for the nonce; a holder of the seed checks it. Nothing here takes memory.
 #![tactic(auto)]
 
+mod laws;
 mod parts;
 mod program;
 mod stored;
@@ -9,6 +10,7 @@ mod verifying;
 mod words;
 mod writing;
 
+pub use laws::signs_prove;
 pub use program::quote_main;
 pub use verifying::{QuoteFault, verify};
 pub use writing::write_quote;
