@@ -1,15 +1,16 @@
 //! Connections over a book, and a worker over the connections of its door.
-ghost use Rattle.std.specs.Prelude.{◌≤◌, All, IfOk, OnOk};
+ghost use Rattle.std.specs.Prelude.{◌≡◌, ◌≤◌, [], All, IfOk, OnOk};
 ghost use Rattle.dpe_io.specs.Memory.{IsFaultless, IsUnused};
 
-use crate::bytes::{Names, RowFault, Runs, number_of, numbers_of, shown};
-use crate::journals::{PIECES, book_of, same_of, shown_entry};
+use crate::journals::{book_of, tell_entry};
+use crate::told::{DIFFERS, Runs, SMALL_PIECES, WHOLE, bytes};
 use dpe_connections::{End, Room, Tally, Worker, serve_connection, serve_worker};
 use dpe_desk::Desk;
 use dpe_io::{MemConn, MemDoor, MemEntropy, MemSink, MemSource};
 use dpe_journal::Book;
 use std::alloc::{AllocError, Global};
 use std::sync::Wait;
+use table_rows::{RowFault, Told, Word, put};
 
 // The room of a connection for what it gets.
 const ROOM: usize = 9_000;
@@ -48,47 +49,64 @@ fn add_conn(
     Ok(())
 }
 
-// How a connection ended.
-fn shown_end(alloc: Global, end: End) -> Result<String, AllocError> {
+// Tells how a connection ended.
+fn tell_end(told: &mut String, end: End) -> Told {
     match end {
-        End::Closed => String::from_str(alloc, "closed"),
-        End::Full { ticket } => format!(in alloc; "full at {ticket}"),
-        End::Cut { have } => format!(in alloc; "cut at {have}"),
-        End::TooLong { length } => format!(in alloc; "too long {length}"),
-        End::ReadFault => String::from_str(alloc, "read fault"),
-        End::WriteFault => String::from_str(alloc, "write fault"),
-        End::EntropyFault => String::from_str(alloc, "entropy fault"),
+        End::Closed => told.push_str("closed")?,
+        End::Full { ticket } => write!(told, "full at {ticket}")?,
+        End::Cut { have } => write!(told, "cut at {have}")?,
+        End::TooLong { length } => write!(told, "too long {length}")?,
+        End::ReadFault => told.push_str("read fault")?,
+        End::WriteFault => told.push_str("write fault")?,
+        End::EntropyFault => told.push_str("entropy fault")?,
     }
+    Ok(())
 }
 
-// What came of a connection: how it ended, what it got and left, and the entries of the book.
+// What a connection is served with.
 #[derive(Drop)]
-struct Ended {
-    end: End,
+struct Outside {
     conn: MemConn,
-    book: Book,
+    entropy: MemEntropy,
+    room: Room,
 }
 
-// Serves one connection over a book.
-fn serve_one<R: Wait>(
-    rt: &R,
+// A connection that sends these bytes in pieces, of which these reads and writes fail, and random bytes, of which these
+// draws do.
+fn outside_of(
     alloc: Global,
-    capacity: &str,
     sent: &[u8],
     piece: usize,
     reads: &[u32],
     writes: &[u32],
     draws: &[u32],
-) -> Result<Ended, RowFault>
+) -> Result<Outside, RowFault>
     requires { 1 ≤ piece }
 {
-    let mut conn = conn_of(alloc, sent, piece, reads, writes)?;
-    let mut entropy = MemEntropy::new(alloc, &[[5; 32]], draws)?;
-    let mut room = Room::make(alloc)?;
-    let book = book_of(alloc, capacity)?;
+    let conn = conn_of(alloc, sent, piece, reads, writes)?;
+    let entropy = MemEntropy::new(alloc, &[[5; 32]], draws)?;
+    let room = Room::make(alloc)?;
+    Ok(Outside {
+        conn,
+        entropy,
+        room,
+    })
+}
+
+// Serves one connection over a book, and answers how it ended, and the book.
+fn serve_over<R: Wait>(
+    rt: &R,
+    alloc: Global,
+    book: Book,
+    outside: &mut Outside,
+) -> Result<(End, Book), RowFault>
+    requires some { 1 ≤ book.capacity }
+    requires most { book.capacity ≤ 65536 }
+    requires empty { book.history ≡ [] }
+{
     let most = u64::from(book.capacity());
     let Ok((desk, mut pass)) = Desk::make(alloc, book, most) else {
-        return Err(RowFault::NoMemory);
+        return Err(RowFault::OutOfMemory);
     };
     let end = serve_connection(
         rt,
@@ -96,132 +114,151 @@ fn serve_one<R: Wait>(
         &mut pass,
         0,
         LOCALITY,
-        &mut conn,
-        &mut entropy,
-        &mut room,
+        &mut outside.conn,
+        &mut outside.entropy,
+        &mut outside.room,
     );
-    Ok(Ended {
-        end,
-        conn,
-        book: desk.close(pass),
-    })
+    Ok((end, desk.close(pass)))
 }
 
-// All that came of it.
-fn shown_whole(alloc: Global, ended: &Ended) -> Result<String, AllocError> {
-    let mut text = shown_end(alloc, ended.end)?;
-    write!(
-        text,
-        ", left {}, got {}",
-        shown(alloc, ended.conn.source().left())?,
-        shown(alloc, ended.conn.sink().bytes())?
-    )?;
-    for at in 0..ended.book.length() {
-        write!(text, ", {}", shown_entry(alloc, ended.book.entry(at))?)?;
+// Tells the entries of a book.
+fn tell_entries(told: &mut String, book: &Book) -> Told {
+    for at in 0..book.length() {
+        put(told, ", ")?;
+        tell_entry(told, book.entry(at))?;
     }
-    Ok(text)
+    Ok(())
 }
 
-// What comes of a connection that gives so many bytes in a read.
+// Tells what comes of a connection over a book of so many places, and that gives so many bytes in a read: how it ended,
+// what it left and got, and the entries.
 fn served<R: Wait>(
     rt: &R,
     alloc: Global,
-    capacity: &str,
+    capacity: u32,
     sent: &[u8],
     piece: usize,
-) -> Result<String, RowFault>
+    told: &mut String,
+) -> Told
     requires { 1 ≤ piece }
 {
-    let ended = serve_one(rt, alloc, capacity, sent, piece, &[], &[], &[])?;
-    Ok(shown_whole(alloc, &ended)?)
+    let mut outside = outside_of(alloc, sent, piece, &[], &[], &[])?;
+    let (end, book) = serve_over(rt, alloc, book_of(alloc, capacity)?, &mut outside)?;
+    tell_end(told, end)?;
+    bytes(told, ", left ", outside.conn.source().left())?;
+    bytes(told, ", got ", outside.conn.sink().bytes())?;
+    tell_entries(told, &book)
+}
+
+// Whether the same comes of it where the connection gives so many bytes in a read.
+fn serves_same<R: Wait>(
+    rt: &R,
+    alloc: Global,
+    capacity: u32,
+    sent: &[u8],
+    piece: usize,
+    told: &str,
+) -> Result<bool, RowFault>
+    requires { 1 ≤ piece }
+{
+    let mut other = String::new(alloc);
+    served(rt, alloc, capacity, sent, piece, &mut other)?;
+    Ok(other.as_str() == told)
 }
 
 /// What comes of a connection over a book of so many places, at locality 3. Its first random bytes are fives, and then
 /// zeros.
-pub(crate) fn serve<R: Wait>(
-    rt: &R,
-    alloc: Global,
-    names: &Names,
-    words: &[&str],
-) -> Result<String, RowFault> {
+pub(crate) fn serve<R: Wait>(rt: &R, alloc: Global, words: &[Word<'_>], told: &mut String) -> Told {
     let [capacity, sent] = words else {
-        return Err(RowFault::Unread);
+        return Err(RowFault::Unreadable);
     };
-    let sent = names.bytes(alloc, sent)?;
-    let [one, seven, all] = PIECES;
-    let text = served(rt, alloc, capacity, &sent, one)?;
-    let second = served(rt, alloc, capacity, &sent, seven)?;
-    let third = served(rt, alloc, capacity, &sent, all)?;
-    same_of(alloc, text, &second, &third)
+    let capacity = capacity.number::<u32>()?;
+    let sent = sent.bytes()?;
+    let [one, seven] = SMALL_PIECES;
+    served(rt, alloc, capacity, sent, WHOLE, told)?;
+    if serves_same(rt, alloc, capacity, sent, one, told)?
+        && serves_same(rt, alloc, capacity, sent, seven, told)?
+    {
+        return Ok(());
+    }
+    put(told, DIFFERS)
 }
 
-// The end, the number of entries and of the bytes that the connection got.
-fn shown_short(alloc: Global, ended: &Ended) -> Result<String, AllocError> {
-    let end = shown_end(alloc, ended.end)?;
-    let got = ended.conn.sink().bytes().len();
-    format!(in alloc; "{end}, {} entries, {got} bytes", ended.book.length())
-}
-
-// What comes of it where one call of a kind fails: `reads`, `writes` or `draws`.
-fn serve_without<R: Wait>(
-    rt: &R,
+// A connection, where one call of a kind fails: `reads`, `writes` or `draws`.
+fn outside_without(
     alloc: Global,
     kind: &str,
     call: u32,
     piece: usize,
     sent: &[u8],
-) -> Result<Ended, RowFault>
+) -> Result<Outside, RowFault>
     requires { 1 ≤ piece }
 {
     match kind {
-        "reads" => serve_one(rt, alloc, "2", sent, piece, &[call], &[], &[]),
-        "writes" => serve_one(rt, alloc, "2", sent, piece, &[], &[call], &[]),
-        "draws" => serve_one(rt, alloc, "2", sent, piece, &[], &[], &[call]),
-        _ => Err(RowFault::Unread),
+        "reads" => outside_of(alloc, sent, piece, &[call], &[], &[]),
+        "writes" => outside_of(alloc, sent, piece, &[], &[call], &[]),
+        "draws" => outside_of(alloc, sent, piece, &[], &[], &[call]),
+        _ => Err(RowFault::Unreadable),
     }
+}
+
+// The end, the number of entries and of the bytes that the connection got.
+fn shown_short<R: Wait>(rt: &R, alloc: Global, outside: &mut Outside) -> Result<String, RowFault> {
+    let (end, book) = serve_over(rt, alloc, book_of(alloc, 2)?, outside)?;
+    let mut text = String::new(alloc);
+    tell_end(&mut text, end)?;
+    let got = outside.conn.sink().bytes().len();
+    write!(text, ", {} entries, {got} bytes", book.length())?;
+    Ok(text)
 }
 
 /// The same over a book of two places where each of the first calls of a kind fails in turn, so many of them.
 pub(crate) fn serve_failing<R: Wait>(
     rt: &R,
     alloc: Global,
-    names: &Names,
-    words: &[&str],
-) -> Result<String, RowFault> {
+    words: &[Word<'_>],
+    told: &mut String,
+) -> Told {
     let [kind, calls, piece, sent] = words else {
-        return Err(RowFault::Unread);
+        return Err(RowFault::Unreadable);
     };
-    let calls = number_of(calls)?;
-    let piece = number_of(piece)? as usize;
-    if piece == 0 {
-        return Err(RowFault::Unread);
-    }
-    let sent = names.bytes(alloc, sent)?;
-    let mut runs = Runs::new(alloc);
+    let calls = calls.number::<u32>()?;
+    let piece = piece.size()?;
+    let sent = sent.bytes()?;
+    let mut runs = Runs {
+        last: String::new(alloc),
+    };
     for call in 0..calls {
-        let ended = serve_without(rt, alloc, kind, call, piece, &sent)?;
-        runs.add(call as usize, shown_short(alloc, &ended)?)?;
+        let mut outside = outside_without(alloc, kind.text, call, piece, sent)?;
+        runs.add(call as usize, shown_short(rt, alloc, &mut outside)?, told)?;
     }
-    Ok(runs.text())
+    Ok(())
 }
 
-/// A door at which connections wait that send what the words say. These calls of its own fail, and these of each
-/// connection.
+/// What each connection of a door sends, as the words say.
+pub(crate) fn sent_of<'a>(alloc: Global, words: &'a [Word<'_>]) -> Result<Vec<&'a [u8]>, RowFault> {
+    let mut sent = Vec::new(alloc);
+    for word in words {
+        sent.push(word.bytes()?)?;
+    }
+    Ok(sent)
+}
+
+/// A door at which connections wait that send these bytes. These calls of its own fail, and these of each connection.
 pub(crate) fn door_of(
     alloc: Global,
-    names: &Names,
-    words: &[&str],
+    sent: &[&[u8]],
     nexts: &[u32],
     reads: &[u32],
     writes: &[u32],
-) -> Result<MemDoor, RowFault>
+) -> Result<MemDoor, AllocError>
     ensures { IfOk result IsUnused }
 {
     let mut conns = Vec::new(alloc);
-    for word in words {
-        add_conn(alloc, &mut conns, &names.bytes(alloc, word)?, reads, writes)?;
+    for bytes in sent {
+        add_conn(alloc, &mut conns, bytes, reads, writes)?;
     }
-    Ok(MemDoor::new(alloc, conns, nexts)?)
+    MemDoor::new(alloc, conns, nexts)
 }
 
 // What came of a worker: what it tallied, its door, and the book.
@@ -233,19 +270,22 @@ struct Worked {
 }
 
 // Serves the connections of a door over a book.
-fn work_on<R: Wait>(
+fn work_over<R: Wait>(
     rt: &R,
     alloc: Global,
-    capacity: &str,
+    book: Book,
     each: u32,
     door: MemDoor,
-) -> Result<Worked, RowFault> {
-    let entropy = MemEntropy::new(alloc, &[], &[])?;
-    let room = Room::make(alloc)?;
-    let book = book_of(alloc, capacity)?;
+    entropy: MemEntropy,
+    room: Room,
+) -> Result<Worked, RowFault>
+    requires some { 1 ≤ book.capacity }
+    requires most { book.capacity ≤ 65536 }
+    requires empty { book.history ≡ [] }
+{
     let most = u64::from(book.capacity());
     let Ok((desk, pass)) = Desk::make(alloc, book, most) else {
-        return Err(RowFault::NoMemory);
+        return Err(RowFault::OutOfMemory);
     };
     let mut worker = Worker::new(door, entropy, pass, LOCALITY, each, room);
     serve_worker(rt, &desk, &mut worker);
@@ -265,46 +305,50 @@ fn work_on<R: Wait>(
     })
 }
 
-// The tally, and how many entries the book has.
-fn shown_tally(alloc: Global, worked: &Worked) -> Result<String, AllocError> {
-    let tally = &worked.tally;
-    let failed = if tally.door_failed {
-        ", door failed"
-    } else {
-        ""
-    };
-    format!(in alloc;
-        "connections {}, full {}, cut {}{failed}, {} entries",
-        tally.connections,
-        tally.full,
-        tally.cut,
-        worked.book.length()
-    )
+// Serves the connections of a door over a book of so many places.
+fn work_on<R: Wait>(
+    rt: &R,
+    alloc: Global,
+    capacity: u32,
+    each: u32,
+    door: MemDoor,
+) -> Result<Worked, RowFault> {
+    let entropy = MemEntropy::new(alloc, &[], &[])?;
+    let room = Room::make(alloc)?;
+    let book = book_of(alloc, capacity)?;
+    work_over(rt, alloc, book, each, door, entropy, room)
 }
 
-// The same, and what each connection got that was handed back.
-fn shown_worked(alloc: Global, worked: &Worked) -> Result<String, AllocError> {
-    let mut text = shown_tally(alloc, worked)?;
-    for conn in worked.door.ended() {
-        write!(text, ", got {}", shown(alloc, conn.sink().bytes())?)?;
+// Tells a tally.
+fn tell_tally(told: &mut String, tally: &Tally) -> Told {
+    let (connections, full, cut) = (tally.connections, tally.full, tally.cut);
+    write!(told, "connections {connections}, full {full}, cut {cut}")?;
+    if tally.door_failed {
+        put(told, ", door failed")?;
     }
-    Ok(text)
+    Ok(())
+}
+
+// Tells the tally, how many entries the book has, and what each connection got that was handed back.
+fn tell_worked(told: &mut String, worked: &Worked) -> Told {
+    tell_tally(told, &worked.tally)?;
+    write!(told, ", {} entries", worked.book.length())?;
+    for conn in worked.door.ended() {
+        bytes(told, ", got ", conn.sink().bytes())?;
+    }
+    Ok(())
 }
 
 /// What a worker tallies, how many entries it makes over a book of so many places, and what each connection got that
 /// was handed back. It may serve at most so many connections.
-pub(crate) fn work<R: Wait>(
-    rt: &R,
-    alloc: Global,
-    names: &Names,
-    words: &[&str],
-) -> Result<String, RowFault> {
+pub(crate) fn work<R: Wait>(rt: &R, alloc: Global, words: &[Word<'_>], told: &mut String) -> Told {
     let [capacity, each, failing, words @ ..] = words else {
-        return Err(RowFault::Unread);
+        return Err(RowFault::Unreadable);
     };
-    let each = number_of(each)?;
-    let failing = numbers_of(alloc, failing)?;
-    let door = door_of(alloc, names, words, &failing, &[], &[])?;
+    let capacity = capacity.number::<u32>()?;
+    let each = each.number::<u32>()?;
+    let failing = failing.numbers(alloc)?;
+    let door = door_of(alloc, &sent_of(alloc, words)?, &failing, &[], &[])?;
     let worked = work_on(rt, alloc, capacity, each, door)?;
-    Ok(shown_worked(alloc, &worked)?)
+    tell_worked(told, &worked)
 }

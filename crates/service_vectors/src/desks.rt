@@ -1,13 +1,14 @@
 //! A desk over a book, shared by two passes of one thread.
 ghost use Rattle.std.specs.Prelude.{◌≤◌};
 
-use crate::bytes::{Names, RowFault, number_of, shown};
+use crate::told::bytes;
 use dpe_desk::{Desk, Full, Pass};
 use dpe_io::{MAX_PACKET, Packet};
 use dpe_journal::{Book, Call, MAX_RECORDS};
 use shared_book::open;
 use std::alloc::{AllocError, Global};
 use std::sync::Wait;
+use table_rows::{RowFault, Told, Word};
 
 // A pass as it is printed: its name, its stake, and how many passes it stands for.
 #[derive(Clone, Copy)]
@@ -44,14 +45,6 @@ fn add_places(text: &mut String, places: &[Result<u64, Full>]) -> Result<(), All
         }
     }
     Ok(())
-}
-
-// Appends the callers of a book's entries, and the last reply.
-fn add_book(alloc: Global, text: &mut String, book: &Book, reply: &[u8]) -> Result<(), AllocError> {
-    for at in 0..book.length() {
-        write!(text, "caller {}, ", book.entry(at).caller)?;
-    }
-    write!(text, "reply {}", shown(alloc, reply)?)
 }
 
 // What came of two passes: what they were at first, what each was answered and how long the book was then, what they were
@@ -103,37 +96,39 @@ fn pass_all<R: Wait>(
     })
 }
 
-// All of it, and the last reply.
-fn shown_shares(alloc: Global, shares: &Shares, reply: &[u8]) -> Result<String, AllocError> {
-    let mut text = String::new(alloc);
-    add_passes(&mut text, &shares.begun)?;
-    add_places(&mut text, &shares.one_each)?;
-    write!(text, "length {}, ", shares.length)?;
-    add_places(&mut text, &shares.more)?;
-    add_passes(&mut text, &shares.joined)?;
-    add_book(alloc, &mut text, &shares.book, reply)?;
-    Ok(text)
+// Tells what the passes were and were answered.
+fn tell_passes(told: &mut String, shares: &Shares) -> Result<(), AllocError> {
+    add_passes(told, &shares.begun)?;
+    add_places(told, &shares.one_each)?;
+    write!(told, "length {}, ", shares.length)?;
+    add_places(told, &shares.more)?;
+    add_passes(told, &shares.joined)
+}
+
+// Tells the callers of a book's entries.
+fn tell_callers(told: &mut String, book: &Book) -> Result<(), AllocError> {
+    for at in 0..book.length() {
+        write!(told, "caller {}, ", book.entry(at).caller)?;
+    }
+    Ok(())
 }
 
 /// A desk over an empty book, both of so many places. A second pass is split off with a stake of 1. Each pass makes the
 /// call once, and the length is told; then the first makes it twice more, and the second once. The second is joined into
 /// the first, and the book closed: how many entries it has, their callers, and the last reply that was given.
-pub(crate) fn share<R: Wait>(
-    rt: &R,
-    alloc: Global,
-    names: &Names,
-    words: &[&str],
-) -> Result<String, RowFault> {
+pub(crate) fn share<R: Wait>(rt: &R, alloc: Global, words: &[Word<'_>], told: &mut String) -> Told {
     let [capacity, payload] = words else {
-        return Err(RowFault::Unread);
+        return Err(RowFault::Unreadable);
     };
-    let capacity = number_of(capacity)?;
-    let payload = names.bytes(alloc, payload)?;
-    if capacity == 0 || capacity > MAX_RECORDS || payload.len() > MAX_PACKET {
-        return Err(RowFault::Unread);
+    let capacity = capacity.number::<u32>()?;
+    let payload = payload.at_most(MAX_PACKET)?;
+    if capacity == 0 || capacity > MAX_RECORDS {
+        return Err(RowFault::Unreadable);
     }
-    let call = Call::new(0, 0, 0, &[0; 32], &payload);
+    let call = Call::new(0, 0, 0, &[0; 32], payload);
     let mut reply = Packet::new();
     let shares = pass_all(rt, alloc, capacity, &call, &mut reply)?;
-    Ok(shown_shares(alloc, &shares, reply.bytes())?)
+    tell_passes(told, &shares)?;
+    tell_callers(told, &shares.book)?;
+    bytes(told, "reply ", reply.bytes())
 }

@@ -1,38 +1,30 @@
 //! Journals: read part by part, and written; and books, which keep what they do.
 ghost use Rattle.std.specs.Prelude.{◌≡◌, ◌≤◌, [], IfOk};
 
-use crate::bytes::{Names, RowFault, Runs, number_of, numbers_of, shown};
+use crate::told::{DIFFERS, Runs, SMALL_PIECES, WHOLE, bytes, only};
 use dpe_io::{MAX_PACKET, MemSink, MemSource, Packet, Source};
-use dpe_journal::{
-    Book, Call, Entry, MAX_RECORDS, Next, RecordFault, Records, SinkFault, write_journal,
-};
+use dpe_journal::{Book, Call, Entry, MAX_RECORDS, Next, RecordFault, Records, write_journal};
 use std::alloc::{AllocError, Global};
-
-/// How many bytes a read gives at most: each journal and each connection is read in these three ways.
-pub(crate) const PIECES: [usize; 3] = [1, 7, 9_000];
-
-// The answer where the three ways differ.
-const DIFFERS: &str = "what is answered depends on the pieces";
+use table_rows::{Names, RowFault, Told, Word, put, show_alike};
 
 // The most bytes of a sink.
-const MOST_ROOM: u32 = 100_000;
+const MOST_ROOM: usize = 100_000;
 
 // The seed of all books.
 const SEED: [u8; 32] = [0; 32];
 
-/// An entry as it is printed: caller, connection, index, locality, random bytes, and both payloads.
-pub(crate) fn shown_entry(alloc: Global, entry: &Entry) -> Result<String, AllocError> {
+/// Tells an entry: caller, connection, index, locality, random bytes, and both payloads.
+pub(crate) fn tell_entry(told: &mut String, entry: &Entry) -> Told {
     let call = &entry.call;
-    format!(in alloc;
-        "entry {} {} {} {} {} {} {}",
-        entry.caller,
-        call.connection(),
-        call.index(),
-        call.locality(),
-        shown(alloc, call.random())?,
-        shown(alloc, call.payload())?,
-        shown(alloc, entry.reply.bytes())?
-    )
+    let (connection, index, locality) = (call.connection(), call.index(), call.locality());
+    write!(
+        told,
+        "entry {} {connection} {index} {locality}",
+        entry.caller
+    )?;
+    bytes(told, " ", call.random())?;
+    bytes(told, " ", call.payload())?;
+    bytes(told, " ", entry.reply.bytes())
 }
 
 // The next part, where the reader hasn't ended.
@@ -46,84 +38,96 @@ fn next_of<S: Source>(
     Some(records.next(entry))
 }
 
-// What a part is printed as.
-fn shown_part(alloc: Global, part: Next, entry: &Entry) -> Result<String, AllocError> {
+// Tells a part.
+fn tell_part(told: &mut String, part: Next, entry: &Entry) -> Told {
     match part {
-        Next::Header(first) => format!(in alloc; "header {first}, "),
-        Next::Entry => format!(in alloc; "{}, ", shown_entry(alloc, entry)?),
-        Next::End(count) => format!(in alloc; "end {count}"),
+        Next::Header(first) => write!(told, "header {first}, ")?,
+        Next::Entry => {
+            tell_entry(told, entry)?;
+            put(told, ", ")?;
+        }
+        Next::End(count) => write!(told, "end {count}")?,
     }
+    Ok(())
 }
 
-// All parts of a journal that a source gives, up to its fault or its end, behind which no byte is left.
-fn parts_of(alloc: Global, source: MemSource, most: usize) -> Result<String, AllocError> {
-    let mut records = Records::new(source);
-    let mut entry = Entry::new();
-    let mut text = String::new(alloc);
+// Tells the parts up to a fault or the end, and answers whether it was the end.
+fn tell_parts(
+    records: &mut Records<MemSource>,
+    entry: &mut Entry,
+    most: usize,
+    told: &mut String,
+) -> Result<bool, RowFault> {
     for _ in 0..most {
-        match next_of(&mut records, &mut entry) {
-            Some(Ok(part)) => text.push_str(&shown_part(alloc, part, &entry)?)?,
+        match next_of(records, entry) {
+            Some(Ok(part)) => tell_part(told, part, entry)?,
             Some(Err(fault)) => {
-                write!(text, "{fault}")?;
-                return Ok(text);
+                write!(told, "{fault}")?;
+                return Ok(false);
             }
-            None => break,
+            None => return Ok(true),
         }
     }
-    write!(text, ", left {}", shown(alloc, records.release().left())?)?;
-    Ok(text)
+    Ok(true)
 }
 
-/// What a row about a journal or a book gives.
-pub(crate) fn answer(
+// Tells all parts of a journal, and what is left behind its end.
+fn tell_journal(source: MemSource, most: usize, told: &mut String) -> Told {
+    let mut records = Records::new(source);
+    if tell_parts(&mut records, &mut Entry::new(), most, told)? {
+        bytes(told, ", left ", records.release().left())?;
+    }
+    Ok(())
+}
+
+/// Tells what a row about a journal or a book gives.
+pub(crate) fn tell(
     alloc: Global,
     names: &Names,
     call: &str,
-    words: &[&str],
-) -> Result<String, RowFault> {
+    words: &[Word<'_>],
+    told: &mut String,
+) -> Told {
     match call {
-        "read" => read(alloc, &names.only(alloc, words)?),
-        "read-cut" => read_cut(alloc, &names.only(alloc, words)?),
-        "read-failing" => read_failing(alloc, &names.only(alloc, words)?),
-        "write" => write(alloc, names, words),
-        "book" => keep(alloc, names, words),
-        _ => Err(RowFault::Unread),
+        "read" => read(alloc, only(words)?, told),
+        "read-cut" => read_cut(alloc, only(words)?, told),
+        "read-failing" => read_failing(alloc, only(words)?, told),
+        "write" => write(alloc, names, words, told),
+        "book" => keep(alloc, names, words, told),
+        _ => Err(RowFault::Unreadable),
     }
 }
 
-// The parts of a journal that comes in such pieces.
-fn read_by(alloc: Global, journal: &[u8], piece: usize) -> Result<String, RowFault>
+// Tells the parts of a journal that comes in such pieces.
+fn read_by(alloc: Global, journal: &[u8], piece: usize, told: &mut String) -> Told
     requires { 1 ≤ piece }
 {
     let most = journal.len().saturating_add(2);
     let source = MemSource::new(alloc, journal, piece, &[])?;
-    Ok(parts_of(alloc, source, most)?)
+    tell_journal(source, most, told)
 }
 
-// The parts of a journal, and what is left unread behind its end.
-fn read(alloc: Global, journal: &[u8]) -> Result<String, RowFault> {
-    let [one, seven, all] = PIECES;
-    let text = read_by(alloc, journal, one)?;
-    let second = read_by(alloc, journal, seven)?;
-    let third = read_by(alloc, journal, all)?;
-    same_of(alloc, text, &second, &third)
+// Whether the same is told where the journal comes in such pieces.
+fn reads_same(alloc: Global, journal: &[u8], piece: usize, told: &str) -> Result<bool, RowFault>
+    requires { 1 ≤ piece }
+{
+    let mut other = String::new(alloc);
+    read_by(alloc, journal, piece, &mut other)?;
+    Ok(other.as_str() == told)
 }
 
-/// The text, where the others are the same.
-pub(crate) fn same_of(
-    alloc: Global,
-    text: String,
-    second: &str,
-    third: &str,
-) -> Result<String, RowFault> {
-    if text.as_str() == second && text.as_str() == third {
-        return Ok(text);
+// Tells the parts of a journal, and what is left unread behind its end.
+fn read(alloc: Global, journal: &[u8], told: &mut String) -> Told {
+    let [one, seven] = SMALL_PIECES;
+    read_by(alloc, journal, WHOLE, told)?;
+    if reads_same(alloc, journal, one, told)? && reads_same(alloc, journal, seven, told)? {
+        return Ok(());
     }
-    Ok(String::from_str(alloc, DIFFERS)?)
+    put(told, DIFFERS)
 }
 
-// What is left of a reading: the end or the fault, and how many records stood before.
-fn verdict_of(alloc: Global, source: MemSource, most: usize) -> Result<String, AllocError> {
+// How many records stood before the end or the fault of a journal, and which it was.
+fn last_of(source: MemSource, most: usize) -> (u32, Option<Result<u64, RecordFault>>) {
     let mut records = Records::new(source);
     let mut entry = Entry::new();
     let mut count = 0u32;
@@ -131,56 +135,79 @@ fn verdict_of(alloc: Global, source: MemSource, most: usize) -> Result<String, A
         match next_of(&mut records, &mut entry) {
             Some(Ok(Next::Header(_))) => {}
             Some(Ok(Next::Entry)) => count = count.saturating_add(1),
-            Some(Ok(Next::End(end))) => {
-                return format!(in alloc; "end {end} behind {count} records");
-            }
-            Some(Err(fault)) => return format!(in alloc; "{fault} behind {count} records"),
+            Some(Ok(Next::End(end))) => return (count, Some(Ok(end))),
+            Some(Err(fault)) => return (count, Some(Err(fault))),
             None => break,
         }
     }
-    String::from_str(alloc, "no end")
+    (count, None)
+}
+
+// What is left of a reading: the end or the fault, and how many records stood before.
+fn verdict_of(alloc: Global, source: MemSource) -> Result<String, AllocError> {
+    match last_of(source, 9) {
+        (count, Some(Ok(end))) => format!(in alloc; "end {end} behind {count} records"),
+        (count, Some(Err(fault))) => format!(in alloc; "{fault} behind {count} records"),
+        (_, None) => String::from_str(alloc, "no end"),
+    }
+}
+
+// What is left of reading these bytes, so many at a time, where these reads fail.
+fn verdict(
+    alloc: Global,
+    journal: &[u8],
+    piece: usize,
+    failing: &[u32],
+) -> Result<String, AllocError>
+    requires { 1 ≤ piece }
+{
+    verdict_of(alloc, MemSource::new(alloc, journal, piece, failing)?)
 }
 
 // The journal cut to each length.
-fn read_cut(alloc: Global, journal: &[u8]) -> Result<String, RowFault> {
+fn read_cut(alloc: Global, journal: &[u8], told: &mut String) -> Told {
     let most = journal.len();
-    let mut runs = Runs::new(alloc);
+    let mut runs = Runs {
+        last: String::new(alloc),
+    };
     for len in 0..=most {
-        let source = MemSource::new(alloc, &journal[..len], 5, &[])?;
-        runs.add(len, verdict_of(alloc, source, 9)?)?;
+        runs.add(len, verdict(alloc, &journal[..len], 5, &[])?, told)?;
     }
-    Ok(runs.text())
+    Ok(())
 }
 
 // The journal byte by byte, where each read in turn fails, and last one that isn't made.
-fn read_failing(alloc: Global, journal: &[u8]) -> Result<String, RowFault> {
-    let mut runs = Runs::new(alloc);
+fn read_failing(alloc: Global, journal: &[u8], told: &mut String) -> Told {
+    let most = journal.len().saturating_add(1);
+    let mut runs = Runs {
+        last: String::new(alloc),
+    };
     for call in 0..=MAX_RECORDS {
-        if call as usize > journal.len().saturating_add(1) {
+        if call as usize > most {
             break;
         }
-        let source = MemSource::new(alloc, journal, 1, &[call])?;
-        runs.add(call as usize, verdict_of(alloc, source, 9)?)?;
+        runs.add(call as usize, verdict(alloc, journal, 1, &[call])?, told)?;
     }
-    Ok(runs.text())
+    Ok(())
 }
 
 // A sink of so many bytes, of which a write takes at most a piece, and of which these calls fail.
-fn sink_of(alloc: Global, size: &str, piece: &str, failing: &str) -> Result<MemSink, RowFault> {
-    let size = number_of(size)?;
-    let piece = number_of(piece)? as usize;
-    if size > MOST_ROOM || piece == 0 {
-        return Err(RowFault::Unread);
-    }
-    let failing = numbers_of(alloc, failing)?;
-    Ok(MemSink::new(alloc, size as usize, piece, &failing)?)
+fn sink_of(
+    alloc: Global,
+    size: &Word<'_>,
+    piece: &Word<'_>,
+    failing: &Word<'_>,
+) -> Result<MemSink, RowFault> {
+    let size = size.length_to(MOST_ROOM)?;
+    let piece = piece.size()?;
+    let failing = failing.numbers(alloc)?;
+    Ok(MemSink::new(alloc, size, piece, &failing)?)
 }
 
 // An entry of caller 7 with these payloads.
-fn entry_of(payload: &[u8], reply: &[u8]) -> Result<Entry, RowFault> {
-    if payload.len() > MAX_PACKET || reply.len() > MAX_PACKET {
-        return Err(RowFault::Unread);
-    }
+fn entry_of(payload: &Word<'_>, reply: &Word<'_>) -> Result<Entry, RowFault> {
+    let payload = payload.at_most(MAX_PACKET)?;
+    let reply = reply.at_most(MAX_PACKET)?;
     let mut stored = Packet::new();
     stored.set(reply);
     Ok(Entry {
@@ -190,112 +217,118 @@ fn entry_of(payload: &[u8], reply: &[u8]) -> Result<Entry, RowFault> {
     })
 }
 
+// The words before and behind the colon of a word.
+fn halves<'a>(
+    alloc: Global,
+    names: &Names,
+    word: &Word<'a>,
+) -> Result<(Word<'a>, Word<'a>), RowFault> {
+    match word.whole.split_once(':') {
+        Some((front, back)) => Ok((
+            Word::read(alloc, names, front),
+            Word::read(alloc, names, back),
+        )),
+        None => Err(RowFault::Unreadable),
+    }
+}
+
 // The entries of words `PAYLOAD:REPLY`.
-fn entries_of(alloc: Global, names: &Names, words: &[&str]) -> Result<Vec<Entry>, RowFault> {
+fn entries_of(alloc: Global, names: &Names, words: &[Word<'_>]) -> Result<Vec<Entry>, RowFault> {
     let mut entries = Vec::new(alloc);
     for word in words {
-        let (payload, reply) = word.split_once(':').ok_or(RowFault::Unread)?;
-        let payload = names.bytes(alloc, payload)?;
-        let reply = names.bytes(alloc, reply)?;
+        let (payload, reply) = halves(alloc, names, word)?;
         entries.push(entry_of(&payload, &reply)?)?;
     }
     Ok(entries)
 }
 
-// What the sink gets of a journal, and how many of its bytes are told to be written where it fails.
-fn write(alloc: Global, names: &Names, words: &[&str]) -> Result<String, RowFault> {
+// Tells what the sink gets of a journal, and how many of its bytes are told to be written where it fails.
+fn write(alloc: Global, names: &Names, words: &[Word<'_>], told: &mut String) -> Told {
     let [first, size, piece, failing, words @ ..] = words else {
-        return Err(RowFault::Unread);
+        return Err(RowFault::Unreadable);
     };
-    let first = u64::from(number_of(first)?);
-    let entries = entries_of(alloc, names, words)?;
+    let first = u64::from(first.number::<u32>()?);
     let mut sink = sink_of(alloc, size, piece, failing)?;
-    if entries.len() > MAX_RECORDS as usize {
-        return Err(RowFault::Unread);
-    }
-    let answer = write_journal(first, &entries, &mut sink);
-    Ok(shown_written(alloc, answer, sink.bytes())?)
+    let entries = entries_of(alloc, names, words)?;
+    write_to(first, &entries, &mut sink, told)
 }
 
-// Whether all was written, and the first bytes that the sink got.
-fn shown_written(
-    alloc: Global,
-    answer: Result<(), SinkFault>,
-    got: &[u8],
-) -> Result<String, AllocError> {
-    let size = got.len();
-    let bytes = shown(alloc, &got[..size.min(200)])?;
-    match answer {
-        Ok(()) => format!(in alloc; "whole, {size} bytes: {bytes}"),
-        Err(fault) => { format!(in alloc; "fault behind {}, {size} bytes: {bytes}", fault.written) }
+// Writes the journal, and tells its fault and the first bytes that the sink got.
+fn write_to(first: u64, entries: &[Entry], sink: &mut MemSink, told: &mut String) -> Told {
+    if entries.len() > MAX_RECORDS as usize {
+        return Err(RowFault::Unreadable);
     }
+    match write_journal(first, entries, sink) {
+        Ok(()) => put(told, "whole")?,
+        Err(fault) => write!(told, "fault behind {}", fault.written)?,
+    }
+    let got = sink.bytes();
+    write!(told, ", {} bytes", got.len())?;
+    bytes(told, ": ", &got[..got.len().min(200)])
 }
 
 /// A book of so many places.
-pub(crate) fn book_of(alloc: Global, capacity: &str) -> Result<Book, RowFault>
+pub(crate) fn book_of(alloc: Global, capacity: u32) -> Result<Book, RowFault>
     ensures { IfOk result (λ book. (1 ≤ book.capacity) × (book.capacity ≤ 65536) × (book.history ≡ [])) }
 {
-    let capacity = number_of(capacity)?;
     if capacity == 0 || capacity > MAX_RECORDS {
-        return Err(RowFault::Unread);
+        return Err(RowFault::Unreadable);
     }
     Ok(Book::make(alloc, &SEED, 1, capacity)?)
 }
 
-// The journal of a book.
-fn journal_of(alloc: Global, book: &Book) -> Result<String, RowFault> {
+// Tells the journal of a book.
+fn tell_written(alloc: Global, book: &Book, told: &mut String) -> Told {
     let mut sink = MemSink::new(alloc, 20_000, 9_000, &[])?;
     match book.write_to(&mut sink) {
-        Ok(()) => Ok(shown(alloc, sink.bytes())?),
-        Err(fault) => Ok(format!(in alloc; "fault behind {}", fault.written)?),
+        Ok(()) => show_alike(told, sink.bytes()),
+        Err(fault) => Ok(write!(told, "fault behind {}", fault.written)?),
     }
 }
 
-// Makes the call of a word `CALLER:PAYLOAD`, and appends the reply.
+// Makes the call of a caller and a payload, and tells the reply.
 fn step(
+    book: &mut Book,
+    caller: &Word<'_>,
+    payload: &Word<'_>,
+    reply: &mut Packet,
+    told: &mut String,
+) -> Told {
+    let caller = caller.number::<u32>()?;
+    let payload = payload.at_most(MAX_PACKET)?;
+    if book.length() == book.capacity() {
+        return Err(RowFault::Unreadable);
+    }
+    book.step(caller, &Call::new(0, 0, 0, &SEED, payload), reply);
+    show_alike(told, reply.bytes())?;
+    put(told, ", ")
+}
+
+// Makes the calls of words `CALLER:PAYLOAD`, and tells the replies, each over the room of the reply before, which begins
+// with 4,096 nines.
+fn step_all(
     alloc: Global,
     names: &Names,
     book: &mut Book,
-    word: &str,
-    reply: &mut Packet,
-    text: &mut String,
-) -> Result<(), RowFault> {
-    let (caller, payload) = word.split_once(':').ok_or(RowFault::Unread)?;
-    let caller = number_of(caller)?;
-    let payload = names.bytes(alloc, payload)?;
-    if payload.len() > MAX_PACKET || book.length() == book.capacity() {
-        return Err(RowFault::Unread);
-    }
-    book.step(caller, &Call::new(0, 0, 0, &SEED, &payload), reply);
-    write!(text, "{}, ", shown(alloc, reply.bytes())?)?;
-    Ok(())
-}
-
-// The replies of a book to the calls of words `CALLER:PAYLOAD`, each over the room of the reply before, which begins with
-// 4,096 nines; how many entries it has, and its journal.
-fn keep(alloc: Global, names: &Names, words: &[&str]) -> Result<String, RowFault> {
-    let Some((capacity, words)) = words.split_first() else {
-        return Err(RowFault::Unread);
-    };
-    let mut book = book_of(alloc, capacity)?;
+    words: &[Word<'_>],
+    told: &mut String,
+) -> Told {
     let mut reply = Packet::new();
     reply.set(&[9; MAX_PACKET]);
-    let mut text = String::new(alloc);
     for word in words {
-        step(alloc, names, &mut book, word, &mut reply, &mut text)?;
+        let (caller, payload) = halves(alloc, names, word)?;
+        step(book, &caller, &payload, &mut reply, told)?;
     }
-    add_book(alloc, &book, &mut text)?;
-    Ok(text)
+    Ok(())
 }
 
-// Appends how many entries a book has, and its journal.
-fn add_book(alloc: Global, book: &Book, text: &mut String) -> Result<(), RowFault> {
-    let journal = journal_of(alloc, book)?;
-    write!(
-        text,
-        "{} of {} entries: {journal}",
-        book.length(),
-        book.capacity()
-    )?;
-    Ok(())
+// The replies of a book to the calls; how many entries it has, and its journal.
+fn keep(alloc: Global, names: &Names, words: &[Word<'_>], told: &mut String) -> Told {
+    let Some((capacity, words)) = words.split_first() else {
+        return Err(RowFault::Unreadable);
+    };
+    let mut book = book_of(alloc, capacity.number()?)?;
+    step_all(alloc, names, &mut book, words, told)?;
+    write!(told, "{} of {} entries: ", book.length(), book.capacity())?;
+    tell_written(alloc, &book, told)
 }

@@ -2,62 +2,63 @@
 //! made as a call, and what came of it is printed on a line of its own.
 #![tactic(auto)]
 
-mod bytes;
 mod connections;
 mod desks;
 mod house;
 mod journals;
 mod servers;
+mod told;
 
-use bytes::{Names, RowFault};
 use std::alloc::Global;
 use std::io;
 use std::sync::Wait;
 use std::thread::Threads;
+use table_rows::{Names, RowFault, Told, Word, words_of};
 
-// What the call of a row gives.
-fn answer<R: Threads + Wait + Sync>(
+// Tells what the call of a row gives.
+fn tell<R: Threads + Wait + Sync>(
     rt: &R,
     alloc: Global,
     names: &Names,
-    call: &str,
-    words: &[&str],
-) -> Result<String, RowFault> {
-    match call {
-        "desk" => desks::share(rt, alloc, names, words),
-        "connection" => connections::serve(rt, alloc, names, words),
-        "connection-failing" => connections::serve_failing(rt, alloc, names, words),
-        "worker" => connections::work(rt, alloc, names, words),
-        "server" => servers::serve(rt, alloc, names, words),
-        _ => journals::answer(alloc, names, call, words),
+    words: &[Word<'_>],
+    told: &mut String,
+) -> Told {
+    let Some((call, words)) = words.split_first() else {
+        return Err(RowFault::Unreadable);
+    };
+    match call.text {
+        "desk" => desks::share(rt, alloc, words, told),
+        "connection" => connections::serve(rt, alloc, words, told),
+        "connection-failing" => connections::serve_failing(rt, alloc, words, told),
+        "worker" => connections::work(rt, alloc, words, told),
+        "server" => servers::serve(rt, alloc, words, told),
+        call => journals::tell(alloc, names, call, words, told),
     }
 }
 
-// The words of a line.
-fn words_of(alloc: Global, line: &str) -> Result<Vec<&str>, RowFault> {
-    let mut words = Vec::new(alloc);
-    for word in line.split(' ') {
-        words.push(word)?;
-    }
-    Ok(words)
+// Gives a name to bytes.
+fn name(alloc: Global, names: &mut Names, row: &str) -> Told {
+    let words = words_of(alloc, names, row)?;
+    let [_, name, bytes] = words.as_slice() else {
+        return Err(RowFault::Unreadable);
+    };
+    names.name(alloc, name.text, Vec::from_slice(alloc, bytes.bytes()?)?)
 }
 
-// The line that is printed for a line of the table. One that gives a name to bytes has none.
-fn run<R: Threads + Wait + Sync>(
+// What is printed for a row: nothing for one that gives a name to bytes.
+fn answer<R: Threads + Wait + Sync>(
     rt: &R,
     alloc: Global,
     names: &mut Names,
-    line: &str,
-) -> Result<Option<String>, RowFault> {
-    let words = words_of(alloc, line)?;
-    let Some((call, words)) = words.split_first() else {
-        return Err(RowFault::Unread);
-    };
-    if *call == "let" {
-        names.add(alloc, words)?;
-        return Ok(None);
+    row: &str,
+) -> Result<String, RowFault> {
+    let mut told = String::new(alloc);
+    if row.starts_with("let ") {
+        name(alloc, names, row)?;
+    } else {
+        tell(rt, alloc, names, &words_of(alloc, names, row)?, &mut told)?;
     }
-    Ok(Some(answer(rt, alloc, names, call, words)?))
+    Ok(told)
 }
 
 fn main(rt: HostRuntime) -> io::Result<()> {
@@ -68,10 +69,11 @@ fn main(rt: HostRuntime) -> io::Result<()> {
         if line.is_empty() {
             println!(rt;)?;
         } else if !line.starts_with('#') {
-            match run(&rt, alloc, &mut names, &line) {
-                Ok(Some(answer)) => println!(rt; "{answer}")?,
-                Ok(None) => {}
-                Err(fault) => println!(rt; "this row {}: {line}", fault.words())?,
+            match answer(&rt, alloc, &mut names, &line) {
+                Ok(told) if told.is_empty() => {}
+                Ok(told) => println!(rt; "{told}")?,
+                Err(RowFault::Unreadable) => println!(rt; "this row can't be read: {line}")?,
+                Err(RowFault::OutOfMemory) => println!(rt; "this row out of memory: {line}")?,
             }
         }
     }

@@ -2,21 +2,22 @@
 ghost use Rattle.std.specs.Prelude.{◌≡◌, All, IfOk};
 ghost use Rattle.dpe_io.specs.Memory.{IsUnused};
 
-use crate::bytes::{Names, RowFault, numbers_of, shown};
-use crate::connections::door_of;
+use crate::connections::{door_of, sent_of};
 use crate::house::Asked;
+use crate::told::{bytes, only};
 use dpe_io::{MemDoor, MemEntropy, MemHouse, MemSink, MemSource};
 use dpe_serve::serve_main;
 use std::alloc::{AllocError, Global};
 use std::sync::Wait;
 use std::thread::Threads;
+use table_rows::{RowFault, Told, Word, put};
 
 // What stands between the parts of a row: the server's words, where `-` stands for an empty one, and then parts that say
 // what differs from a house with a seed of zeros and no door, of which no call fails.
-const BETWEEN: &str = ";";
+static BETWEEN: &str = ";";
 
 // The kinds of calls that can fail.
-const KINDS: [&str; 8] = [
+static KINDS: [&str; 8] = [
     "openings", "seed", "door", "reads", "writes", "draws", "journal", "out",
 ];
 
@@ -32,48 +33,51 @@ struct Fails<'a> {
 #[derive(Drop)]
 struct Plan<'a> {
     words: Vec<&'a str>,
-    seed: Vec<u8>,
-    doors: Vec<&'a [&'a str]>,
-    random: Vec<u8>,
+    seed: &'a [u8],
+    doors: Vec<Vec<&'a [u8]>>,
+    random: &'a [u8],
     fails: Vec<Fails<'a>>,
 }
 
 impl<'a> Plan<'a> {
-    fn new(alloc: Global) -> Result<Plan<'a>, AllocError> {
-        Ok(Plan {
-            seed: Vec::from_slice(alloc, &[0; 32])?,
+    fn new(alloc: Global) -> Plan<'a> {
+        Plan {
             words: Vec::new(alloc),
+            seed: &[0; 32],
             doors: Vec::new(alloc),
-            random: Vec::new(alloc),
+            random: &[],
             fails: Vec::new(alloc),
-        })
+        }
     }
 
     // Takes a part behind the server's words in.
-    fn add(&mut self, alloc: Global, names: &Names, part: &'a [&'a str]) -> Result<(), RowFault> {
+    fn add(&mut self, alloc: Global, part: &'a [Word<'a>]) -> Result<(), RowFault> {
         let Some((what, words)) = part.split_first() else {
-            return Err(RowFault::Unread);
+            return Err(RowFault::Unreadable);
         };
-        match *what {
-            "seed" => self.seed = names.only(alloc, words)?,
-            "door" => self.doors.push(words)?,
-            "random" => self.random = names.only(alloc, words)?,
+        match what.text {
+            "seed" => self.seed = only(words)?,
+            "door" => self.doors.push(sent_of(alloc, words)?)?,
+            "random" => self.random = only(words)?,
             "fail" => self.add_fails(alloc, words)?,
-            _ => return Err(RowFault::Unread),
+            _ => return Err(RowFault::Unreadable),
         }
         Ok(())
     }
 
     // These calls of a kind fail.
-    fn add_fails(&mut self, alloc: Global, words: &'a [&'a str]) -> Result<(), RowFault> {
+    fn add_fails(&mut self, alloc: Global, words: &'a [Word<'a>]) -> Result<(), RowFault> {
         let [kind, calls] = words else {
-            return Err(RowFault::Unread);
+            return Err(RowFault::Unreadable);
         };
-        if !KINDS.iter().any(|known| known == kind) {
-            return Err(RowFault::Unread);
+        if !KINDS.iter().any(|known| *known == kind.text) {
+            return Err(RowFault::Unreadable);
         }
-        let calls = numbers_of(alloc, calls)?;
-        self.fails.push(Fails { kind: *kind, calls })?;
+        let calls = calls.numbers(alloc)?;
+        self.fails.push(Fails {
+            kind: kind.text,
+            calls,
+        })?;
         Ok(())
     }
 
@@ -88,9 +92,9 @@ impl<'a> Plan<'a> {
     }
 
     // Takes the server's words in.
-    fn set_words(&mut self, words: &'a [&'a str]) -> Result<(), AllocError> {
+    fn set_words(&mut self, words: &'a [Word<'a>]) -> Result<(), AllocError> {
         for word in words {
-            let word = if *word == "-" { "" } else { *word };
+            let word = if word.whole == "-" { "" } else { word.whole };
             self.words.push(word)?;
         }
         Ok(())
@@ -98,29 +102,27 @@ impl<'a> Plan<'a> {
 }
 
 // What the words of a row say.
-fn plan_of<'a>(alloc: Global, names: &Names, row: &'a [&'a str]) -> Result<Plan<'a>, RowFault> {
-    let mut plan = Plan::new(alloc)?;
-    let mut parts = row.split(|word| *word == BETWEEN);
+fn plan_of<'a>(alloc: Global, row: &'a [Word<'a>]) -> Result<Plan<'a>, RowFault> {
+    let mut plan = Plan::new(alloc);
+    let mut parts = row.split(|word| word.whole == BETWEEN);
     if let Some(words) = parts.next() {
         plan.set_words(words)?;
     }
     for part in parts {
-        plan.add(alloc, names, part)?;
+        plan.add(alloc, part)?;
     }
     Ok(plan)
 }
 
-fn doors_of(alloc: Global, names: &Names, plan: &Plan<'_>) -> Result<Vec<MemDoor>, RowFault>
+fn doors_of(alloc: Global, plan: &Plan<'_>) -> Result<Vec<MemDoor>, AllocError>
     ensures { IfOk result (λ doors. All IsUnused doors.items) }
 {
-    let (nexts, reads, writes) = (
-        plan.fails("door"),
-        plan.fails("reads"),
-        plan.fails("writes"),
-    );
+    let nexts = plan.fails("door");
+    let reads = plan.fails("reads");
+    let writes = plan.fails("writes");
     let mut doors = Vec::new(alloc);
     for sent in &plan.doors {
-        doors.push(door_of(alloc, names, sent, nexts, reads, writes)?)?;
+        doors.push(door_of(alloc, sent, nexts, reads, writes)?)?;
     }
     Ok(doors)
 }
@@ -139,80 +141,68 @@ fn entropies_of(alloc: Global, plan: &Plan<'_>) -> Result<Vec<MemEntropy>, Alloc
 }
 
 // The house of a row. Its seed gives 20 bytes at most in a read, its journal takes 100 in a write.
-fn house_of(alloc: Global, names: &Names, plan: &Plan<'_>) -> Result<Asked, RowFault> {
-    let seed = MemSource::new(alloc, &plan.seed, 20, plan.fails("seed"))?;
-    let journal = MemSink::new(alloc, 9_000, 100, plan.fails("journal"))?;
-    let doors = doors_of(alloc, names, plan)?;
+fn house_of(alloc: Global, plan: &Plan<'_>) -> Result<MemHouse, RowFault> {
+    let openings = plan.fails("openings");
+    let doors = doors_of(alloc, plan)?;
     let entropies = entropies_of(alloc, plan)?;
-    Ok(Asked {
-        house: MemHouse::new(
-            alloc,
-            seed,
-            journal,
-            doors,
-            entropies,
-            plan.fails("openings"),
-        )?,
-        paths: String::new(alloc),
-    })
+    let seed = MemSource::new(alloc, plan.seed, 20, plan.fails("seed"))?;
+    let journal = MemSink::new(alloc, 9_000, 100, plan.fails("journal"))?;
+    Ok(MemHouse::new(alloc, seed, journal, doors, entropies, openings)?)
 }
 
-// The lines of a summary, with a comma between two.
-fn shown_summary(alloc: Global, printed: &[u8]) -> Result<String, AllocError> {
+// Tells the lines of a summary, with a comma between two.
+fn tell_summary(told: &mut String, printed: &[u8]) -> Told {
     let text = str::from_utf8(printed).unwrap_or("no text");
     if text.is_empty() {
-        return String::from_str(alloc, "nothing");
+        return put(told, "nothing");
     }
-    let mut line = String::new(alloc);
-    for word in text.lines() {
-        if !line.is_empty() {
-            line.push_str(", ")?;
-        }
-        line.push_str(word)?;
-    }
-    Ok(line)
-}
-
-// Appends what each connection got and left that came back to a door.
-fn add_ended(alloc: Global, door: &MemDoor, text: &mut String) -> Result<(), AllocError> {
-    for conn in door.ended() {
-        write!(text, " got {}", shown(alloc, conn.sink().bytes())?)?;
-        write!(text, " left {}", shown(alloc, conn.source().left())?)?;
+    let mut between = "";
+    for line in text.lines() {
+        put(told, between)?;
+        put(told, line)?;
+        between = ", ";
     }
     Ok(())
 }
 
-// What is left of a house: the connections that each door got back, with what they got and left; how many entropies
+// Tells what each connection got and left that came back to a door.
+fn tell_ended(told: &mut String, door: &MemDoor) -> Told {
+    put(told, "; door")?;
+    for conn in door.ended() {
+        bytes(told, " got ", conn.sink().bytes())?;
+        bytes(told, " left ", conn.source().left())?;
+    }
+    Ok(())
+}
+
+// Tells what is left of a house: the connections that each door got back, with what they got and left; how many entropies
 // came back; and what the journal got.
-fn shown_house(alloc: Global, house: &MemHouse) -> Result<String, AllocError> {
-    let mut text = String::new(alloc);
+fn tell_house(told: &mut String, house: &MemHouse) -> Told {
     for door in house.doors() {
-        text.push_str("; door")?;
-        add_ended(alloc, door, &mut text)?;
+        tell_ended(told, door)?;
     }
-    write!(text, "; entropies {}", house.entropies().len())?;
+    write!(told, "; entropies {}", house.entropies().len())?;
     match house.journal_sink() {
-        Some(sink) => write!(text, "; journal {}", shown(alloc, sink.bytes())?)?,
-        None => text.push_str("; no journal")?,
+        Some(sink) => bytes(told, "; journal ", sink.bytes()),
+        None => put(told, "; no journal"),
     }
-    Ok(text)
 }
 
 /// What the server answers: its status, the paths that it asked for, what it printed, and what is left of the house.
 pub(crate) fn serve<R: Threads + Wait + Sync>(
     rt: &R,
     alloc: Global,
-    names: &Names,
-    row: &[&str],
-) -> Result<String, RowFault> {
-    let plan = plan_of(alloc, names, row)?;
-    let mut asked = house_of(alloc, names, &plan)?;
+    row: &[Word<'_>],
+    told: &mut String,
+) -> Told {
+    let plan = plan_of(alloc, row)?;
     let mut out = MemSink::new(alloc, 200, 20, plan.fails("out"))?;
+    let mut asked = Asked {
+        house: house_of(alloc, &plan)?,
+        paths: String::new(alloc),
+    };
     let status = serve_main(rt, alloc, &plan.words, &mut asked, &mut out);
-    let printed = shown_summary(alloc, out.bytes())?;
-    let left = shown_house(alloc, &asked.house)?;
-    Ok(format!(in alloc;
-        "status {status}; asked{}; printed {printed}{left}",
-        asked.paths
-    )?)
+    write!(told, "status {status}; asked{}; printed ", asked.paths)?;
+    tell_summary(told, out.bytes())?;
+    tell_house(told, &asked.house)
 }
