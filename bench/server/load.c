@@ -1,7 +1,7 @@
-/* A client for each door of a server, which sends one Sign of 32 bytes after another and waits for each reply. Words:
-   COUNT DOOR [DOOR ..], each DOOR as the server's, the first at locality 0. Before the clock starts it makes the root and
-   derives a context for each door. It prints the Signs of all doors, the nanoseconds that they took, and how many that is
-   a second. */
+/* A client for each door of a server, which keeps so many Signs of 32 bytes under way: it sends that many, and another for
+   each reply. Words: COUNT UNDERWAY DOOR [DOOR ..], each DOOR as the server's, the first at locality 0. Before the clock
+   starts it makes the root and derives UNDERWAY contexts for each door, since a Sign names the handle of the reply before.
+   It prints the Signs of all doors, the nanoseconds that they took, and how many that is a second. */
 #include <errno.h>
 #include <pthread.h>
 #include <stdbool.h>
@@ -14,7 +14,9 @@
 #include <time.h>
 #include <unistd.h>
 
-enum { HANDLE = 16, INPUT = 64, MESSAGE = 32, MOST_DOORS = 16, MOST_FRAME = 4100, TRIES = 500 };
+enum { HANDLE = 16, INPUT = 64, MESSAGE = 32, MOST_DOORS = 16, MOST_UNDERWAY = 16, TRIES = 500 };
+/* The root lives beside the contexts of the doors. */
+enum { MOST_CONTEXTS = 255 };
 
 /* The bytes before the first handle of each frame, its length with them. */
 static const uint8_t INITIALIZE[] = {0, 0, 0, 6, 0x82, 0, 0x43, 0x82, 7, 0xa0};
@@ -35,26 +37,31 @@ struct client {
   pthread_t thread;
   uint8_t number, locality;
   int fd;
-  uint8_t handle[HANDLE];
+  uint8_t handles[MOST_UNDERWAY][HANDLE];
   struct timespec end;
 };
 
 static struct client clients[MOST_DOORS];
 static pthread_barrier_t ready;
 static uint64_t count;
+static unsigned underway;
 
 static void fail(const char *what) {
   fprintf(stderr, "load: %s%s%s\n", what, errno ? ": " : "", errno ? strerror(errno) : "");
   exit(1);
 }
 
-/* Sends a frame and reads one of this size. */
-static void ask(int fd, const uint8_t *frame, size_t size, uint8_t *reply, size_t reply_size) {
+static void send_all(int fd, const uint8_t *bytes, size_t size) {
   for (size_t sent = 0; sent < size;) {
-    ssize_t part = send(fd, frame + sent, size - sent, MSG_NOSIGNAL);
+    ssize_t part = send(fd, bytes + sent, size - sent, MSG_NOSIGNAL);
     if (part <= 0) fail("no command could be sent");
     sent += (size_t)part;
   }
+}
+
+/* Sends a frame and reads one of this size. */
+static void ask(int fd, const uint8_t *frame, size_t size, uint8_t *reply, size_t reply_size) {
+  send_all(fd, frame, size);
   for (size_t got = 0; got < reply_size;) {
     ssize_t part = recv(fd, reply + got, reply_size - got, 0);
     if (part <= 0) fail("no whole reply came");
@@ -85,8 +92,8 @@ static uint8_t *put_input(uint8_t *out, uint8_t key, uint8_t value) {
   return out + INPUT;
 }
 
-/* Derives a client's context from the root, over the first door; each one has a code input of its own. */
-static void derive(struct client *client, uint8_t *root) {
+/* Derives a context from the root, over the first door, for a client; each client has a code input of its own. */
+static void derive(const struct client *client, uint8_t *root, uint8_t *handle) {
   uint8_t frame[4 + 0xe8], reply[sizeof DERIVED + HANDLE + 2 + HANDLE];
   const uint8_t rest[] = {6, 1, 8, 0xf5, 10, client->locality};
   memcpy(frame, DERIVE, sizeof DERIVE);
@@ -96,23 +103,44 @@ static void derive(struct client *client, uint8_t *root) {
   at = put_input(at, 5, 0x31);
   memcpy(at, rest, sizeof rest);
   ask(clients[0].fd, frame, sizeof frame, reply, sizeof reply);
-  take_handle(reply, DERIVED, sizeof DERIVED, client->handle);
+  take_handle(reply, DERIVED, sizeof DERIVED, handle);
   memcpy(root, reply + sizeof DERIVED + HANDLE + 2, HANDLE);
 }
 
-/* Sends the Signs, each with the handle of the reply before. */
+/* Puts the Sign of this number, which names this handle. */
+static uint8_t *put_sign(uint8_t *out, const struct client *client, const uint8_t *handle, uint64_t number) {
+  memcpy(out, SIGN, sizeof SIGN);
+  memcpy(out + sizeof SIGN, handle, HANDLE);
+  memcpy(out + sizeof SIGN + HANDLE, RETAINED, sizeof RETAINED);
+  memset(out + SIGN_FRAME - MESSAGE, client->number, MESSAGE);
+  memcpy(out + SIGN_FRAME - MESSAGE, &number, sizeof number);
+  return out + SIGN_FRAME;
+}
+
+/* Sends the Signs. Replies come in the order of the commands, so the contexts take turns. */
 static void *sign_all(void *of) {
   struct client *client = of;
-  uint8_t frame[SIGN_FRAME], reply[SIGNED_FRAME], *message = frame + SIGN_FRAME - MESSAGE;
-  memcpy(frame, SIGN, sizeof SIGN);
-  memcpy(frame + sizeof SIGN + HANDLE, RETAINED, sizeof RETAINED);
-  memset(message, client->number, MESSAGE);
+  uint8_t frames[MOST_UNDERWAY * SIGN_FRAME], replies[MOST_UNDERWAY * SIGNED_FRAME], *end = frames;
+  uint64_t sent = 0;
+  size_t held = 0;
   pthread_barrier_wait(&ready);
-  for (uint64_t number = 0; number < count; number++) {
-    memcpy(frame + sizeof SIGN, client->handle, HANDLE);
-    memcpy(message, &number, sizeof number);
-    ask(client->fd, frame, sizeof frame, reply, sizeof reply);
-    take_handle(reply, SIGNED, sizeof SIGNED, client->handle);
+  for (; sent < underway && sent < count; sent++) end = put_sign(end, client, client->handles[sent], sent);
+  for (uint64_t answered = 0; answered < count;) {
+    send_all(client->fd, frames, (size_t)(end - frames));
+    end = frames;
+    ssize_t part = recv(client->fd, replies + held, sizeof replies - held, 0);
+    if (part <= 0) fail("no reply came");
+    held += (size_t)part;
+    size_t used = 0;
+    for (; held - used >= SIGNED_FRAME; used += SIGNED_FRAME, answered++) {
+      uint8_t *handle = client->handles[answered % underway];
+      take_handle(replies + used, SIGNED, sizeof SIGNED, handle);
+      if (sent < count) end = put_sign(end, client, handle, sent++);
+    }
+    /* A refusal is shorter than what is awaited. */
+    if (held - used >= 4 && replies[used + 3] != SIGNED[3]) fail("a command was refused");
+    memmove(replies, replies + used, held - used);
+    held -= used;
   }
   clock_gettime(CLOCK_MONOTONIC, &client->end);
   return NULL;
@@ -159,15 +187,18 @@ static int64_t run(unsigned doors) {
 }
 
 int main(int argc, char **argv) {
-  int doors = argc - 2;
-  if (doors < 1 || doors > MOST_DOORS) fail("the words are COUNT DOOR [DOOR ..]");
+  int doors = argc - 3;
+  if (doors < 1 || doors > MOST_DOORS) fail("the words are COUNT UNDERWAY DOOR [DOOR ..]");
   count = strtoull(argv[1], NULL, 10);
+  underway = (unsigned)strtoul(argv[2], NULL, 10);
   if (count == 0) fail("the count is a number from 1 on");
-  for (int i = 0; i < doors; i++) connect_to(&clients[i], (uint8_t)i, argv[2 + i]);
+  if (underway < 1 || underway > MOST_UNDERWAY || underway * (unsigned)doors > MOST_CONTEXTS) fail("too many contexts, or none");
+  for (int i = 0; i < doors; i++) connect_to(&clients[i], (uint8_t)i, argv[3 + i]);
   uint8_t root[HANDLE];
   errno = 0;
   make_root(root);
-  for (int i = 0; i < doors; i++) derive(&clients[i], root);
+  for (int i = 0; i < doors; i++)
+    for (unsigned j = 0; j < underway; j++) derive(&clients[i], root, clients[i].handles[j]);
   int64_t taken = run((unsigned)doors);
   uint64_t all = count * (unsigned)doors;
   printf("signs %llu\nnanoseconds %lld\n", (unsigned long long)all, (long long)taken);

@@ -1,4 +1,5 @@
-/* A model of the server in plain C, with the same words and the same steps for each command. It is measured beside the
+/* A lean server in plain C, with the same words, and with no more steps for each command than the work needs: what has come
+   in is read by one call, random bytes are drawn in blocks, a reply is written by one call. It is measured beside the
    server and is no part of any program. Words: SEED JOURNAL EACH ENTRIES FIRST DOOR [DOOR ..]; README.md says more. */
 #include <errno.h>
 #include <fcntl.h>
@@ -16,6 +17,8 @@
 #include "messages.h"
 
 enum { HANDLE = 16, RANDOM = 32, MOST_ROWS = 256, MOST_DEPTH = 16, MOST_DOORS = 16, MOST_ENTRIES = 65536, GATHERED = 32768 };
+/* The bytes that one read and one draw ask for. */
+enum { AHEAD = 8192, DRAWN = 4096 };
 enum { SEED_LOCKED = 5, NO_SUCH_HANDLE = 17, WRONG_LOCALITY, DERIVE_NOT_ALLOWED, TOO_DEEP, CONTEXTS_FULL };
 enum { SERIALS_SPENT = 25, JOURNAL_FULL, ROOT_LOCALITY };
 /* The loads of a wait before it gives the processor away before each further one. */
@@ -71,7 +74,10 @@ struct worker {
   uint8_t locality;
   bool full;
   uint32_t connections, ended_full, cut;
-  uint8_t payload[MOST_PAYLOAD], frame[4 + MOST_PAYLOAD];
+  uint8_t frame[4 + MOST_PAYLOAD];
+  /* What was read and not yet used, and the random bytes that were drawn and not yet used. */
+  uint8_t room[AHEAD], block[DRAWN];
+  size_t start, end, drawn;
 };
 
 static struct worker workers[MOST_DOORS];
@@ -260,34 +266,44 @@ static bool act(struct worker *worker, const struct call *call, uint8_t *reply, 
 
 enum end { CLOSED, FULL, CUT };
 
-/* Reads until the room is full, and says how many bytes came; -1 where a read failed. */
-static ssize_t fill(int fd, uint8_t *room, size_t size) {
-  size_t filled = 0;
-  while (filled < size) {
-    ssize_t count = recv(fd, room + filled, size - filled, 0);
-    if (count < 0) return -1;
-    if (count == 0) break;
-    filled += (size_t)count;
+/* Reads until so many bytes are held, at most a whole frame's; false where fewer came. */
+static bool hold(struct worker *worker, int fd, size_t size) {
+  if (worker->start + size > AHEAD) {
+    memmove(worker->room, worker->room + worker->start, worker->end - worker->start);
+    worker->end -= worker->start;
+    worker->start = 0;
   }
-  return (ssize_t)filled;
-}
-
-/* Reads a frame; false where the connection has ended. */
-static bool read_frame(int fd, uint8_t *room, size_t *size, enum end *end) {
-  uint8_t head[4];
-  ssize_t count = fill(fd, head, sizeof head);
-  *end = count == 0 ? CLOSED : CUT;
-  if (count != sizeof head) return false;
-  *size = (size_t)head[0] << 24 | (size_t)head[1] << 16 | (size_t)head[2] << 8 | head[3];
-  return *size <= MOST_PAYLOAD && fill(fd, room, *size) == (ssize_t)*size;
-}
-
-static bool draw(int fd, uint8_t random[RANDOM]) {
-  for (size_t drawn = 0; drawn < RANDOM;) {
-    ssize_t count = read(fd, random + drawn, RANDOM - drawn);
+  while (worker->end - worker->start < size) {
+    ssize_t count = recv(fd, worker->room + worker->end, AHEAD - worker->end, 0);
     if (count <= 0) return false;
-    drawn += (size_t)count;
+    worker->end += (size_t)count;
   }
+  return true;
+}
+
+/* Reads a frame, which is used where it stands; false where the connection has ended. */
+static bool read_frame(struct worker *worker, int fd, struct call *call, enum end *end) {
+  if (worker->start == worker->end) worker->start = worker->end = 0;
+  bool head = hold(worker, fd, 4);
+  *end = worker->start == worker->end ? CLOSED : CUT;
+  if (!head) return false;
+  const uint8_t *at = worker->room + worker->start;
+  call->size = (size_t)at[0] << 24 | (size_t)at[1] << 16 | (size_t)at[2] << 8 | at[3];
+  if (call->size > MOST_PAYLOAD || !hold(worker, fd, 4 + call->size)) return false;
+  call->payload = worker->room + worker->start + 4;
+  worker->start += 4 + call->size;
+  return true;
+}
+
+/* Takes random bytes from the block, which is drawn anew where it is used up. */
+static bool draw(struct worker *worker, uint8_t random[RANDOM]) {
+  if (worker->drawn == DRAWN) {
+    if (read(worker->entropy, worker->block, DRAWN) != DRAWN) return false;
+    worker->drawn = 0;
+  }
+  memcpy(random, worker->block + worker->drawn, RANDOM);
+  memset(worker->block + worker->drawn, 0, RANDOM);
+  worker->drawn += RANDOM;
   return true;
 }
 
@@ -305,13 +321,14 @@ static bool write_frame(int fd, uint8_t *frame, size_t size) {
 }
 
 static enum end serve_connection(struct worker *worker, int fd) {
-  struct call call = {.connection = worker->connections, .locality = worker->locality, .payload = worker->payload};
+  struct call call = {.connection = worker->connections, .locality = worker->locality};
   uint8_t *reply = worker->frame + 4;
   enum end end;
+  worker->start = worker->end = 0;
   for (;; call.index++) {
     size_t size;
-    if (!read_frame(fd, worker->payload, &call.size, &end)) return end;
-    if (!draw(worker->entropy, call.random)) return CUT;
+    if (!read_frame(worker, fd, &call, &end)) return end;
+    if (!draw(worker, call.random)) return CUT;
     bool acted = act(worker, &call, reply, &size);
     if (!acted) size = refuse(reply, JOURNAL_FULL);
     if (!write_frame(fd, worker->frame, size)) return CUT;
@@ -374,6 +391,7 @@ static void open_door(struct worker *worker, uint32_t name, const char *word, ui
   worker->name = name;
   worker->each = each;
   worker->locality = (uint8_t)(word[0] - '0');
+  worker->drawn = DRAWN;
   worker->entropy = open("/dev/urandom", O_RDONLY | O_CLOEXEC);
   worker->listener = socket(AF_UNIX, SOCK_STREAM | SOCK_CLOEXEC, 0);
   if (worker->entropy < 0 || worker->listener < 0) fail(5, word);
