@@ -60,12 +60,7 @@ pub(crate) fn run(alloc: Global, words: &[Word<'_>], told: &mut String) -> Told 
     run_over(&asked, &mut source, &mut sink, told)
 }
 
-fn run_over(
-    words: &[&str],
-    source: &mut MemSource,
-    sink: &mut MemSink,
-    told: &mut String,
-) -> Told {
+fn run_over(words: &[&str], source: &mut MemSource, sink: &mut MemSink, told: &mut String) -> Told {
     let status = quote_main(words, source, sink);
     number(told, "", u64::from(status))?;
     put(told, " ")?;
