@@ -11,8 +11,8 @@ use std::process::ExitCode;
 
 fn main(rt: HostRuntime) -> ExitCode {
     let mut errors = WriteSink::new(rt.stderr());
-    let limit = idle_limit(&rt, &mut errors, &MANUAL);
     run_program(&rt, &mut errors, &MANUAL, |words| {
+        let limit = idle_limit(&rt, &mut WriteSink::new(rt.stderr()), &MANUAL);
         let mut dock = FileDock::new(rt, limit);
         // Each line goes out in one call, as soon as its reply is there.
         let mut out = WriteSink::new(rt.stdout());

@@ -156,11 +156,11 @@ fn tell_summary(told: &mut String, printed: &[u8]) -> Told {
     if text.is_empty() {
         return put(told, "nothing");
     }
-    let mut between = "";
-    for line in text.lines() {
-        put(told, between)?;
+    for (number, line) in text.lines().enumerate() {
+        if number > 0 {
+            put(told, ", ")?;
+        }
         put(told, line)?;
-        between = ", ";
     }
     Ok(())
 }

@@ -122,17 +122,12 @@ where
     }
 }
 
-// Whether an entropy gives the words of a file of places, so many of them, and then fails.
-fn gives_words(entropy: &mut Urandom, words: usize) -> bool {
+// Whether an entropy gives these bytes word by word, and then fails.
+fn gives_words(entropy: &mut Urandom, bytes: &[u8]) -> bool {
     let mut word = [0; 32];
-    for number in 0..words {
-        if entropy.draw(&mut word).is_err() {
+    for expected in bytes.chunks(32) {
+        if entropy.draw(&mut word).is_err() || word.as_slice() != expected {
             return false;
-        }
-        for (place, byte) in word.iter().enumerate() {
-            if *byte != byte_at(number * 32 + place) {
-                return false;
-            }
         }
     }
     entropy.draw(&mut word).is_err() && entropy.faults() == 1
@@ -158,7 +153,7 @@ where
         tell(
             rt,
             "each of its words comes once, in order, and then no other",
-            gives_words(&mut entropy, 320),
+            gives_words(&mut entropy, &bytes),
         );
     }
 }
