@@ -1,5 +1,5 @@
 -- What is read as a quote is the quote that the bytes are.
-use Rattle.std.proofs.Common.{◌≡◌, ℕ, zero, suc, ◌^◌, ◌<◌, ◌≤◌, ◌==◌, List, [], ◌∷◌, ◌++◌, length, Result, Ok, Err, refl, sym, ap, subst, ◌∙◌, append_assoc, arith}
+use Rattle.std.proofs.Common.{◌≡◌, ℕ, zero, suc, ◌==◌, List, [], ◌∷◌, ◌++◌, length, Result, Ok, refl, sym, ap, subst, ◌∙◌, append_assoc, arith}
 use Rattle.std.specs.Prelude.{All}
 use Rattle.std.proofs.lemmas.Bool.{eqb-true}
 use Rattle.std.proofs.lemmas.List.{append-nil, nil_from_length}
@@ -8,10 +8,10 @@ use Rattle.dpe_cbor.specs.Encoding.{head, encoding, items_encoding}
 use Rattle.dpe_cbor.specs.Source.{Source}
 use Rattle.dpe_cbor.specs.Decoding.{AreBytes}
 use Rattle.dpe_inputs.specs.declared.Input.{Input}
-use Rattle.dpe_quotes.specs.Quotes.{Quote, IsInput, IsQuote, input_item, input_items, quote_bytes, depth_limit}
-use Rattle.dpe_quotes.specs.Reading.{◌>>=◌, array_in, string_in, number_in, input_in, path_in, ending, quote_at, quote_in}
+use Rattle.dpe_quotes.specs.Quotes.{Quote, IsInput, IsQuote, input_item, input_items, quote_bytes}
+use Rattle.dpe_quotes.specs.Reading.{array_in, string_in, number_in, input_in, path_in, quote_in}
 use Rattle.dpe_quotes.specs.Spelled.{ReadsSpelled}
-use Rattle.dpe_quotes.proofs.PartLaws.{bind_ok, fine, ok_is, ok_passed, behind, Stands, array_sound, number_sound, string_sound, array_complete, number_complete, string_complete, bytes_behind, joined, apart}
+use Rattle.dpe_quotes.proofs.PartLaws.{bind_ok, ok_is, ok_passed, behind, Stands, array_sound, number_sound, string_sound, array_complete, number_complete, string_complete, bytes_behind, joined, apart}
 use Rattle.dpe_quotes.proofs.Whole.{then, quote_read}
 use Rattle.dpe_quotes.proofs.Written.{count_is}
 
@@ -79,15 +79,14 @@ input_complete s x after is stands =
     let d = behind c (e4 ++ after) in
     let m = behind d (e5 ++ after) in
     let h = behind m ([] ++ after) in
-    let mode = is.mode in
-    (
+    let mode = is.mode in (
       h,
       then (array_in 5 5 s) (5, a) _ (array_complete 5 5 s 5 (e1 ++ after) (omega arith) (omega arith) (omega arith) (apart (head 4 5) e1 after s.rest stands))
-      ∙ then (string_in 64 64 a) (x.code, b) _ (digest a x.code (e2 ++ after) is.code (append_assoc (string x.code) e2 after))
-      ∙ then (string_in 64 64 b) (x.config, c) _ (digest b x.config (e3 ++ after) is.config (append_assoc (string x.config) e3 after))
-      ∙ then (string_in 64 64 c) (x.authority, d) _ (digest c x.authority (e4 ++ after) is.authority (append_assoc (string x.authority) e4 after))
-      ∙ then (number_in 0 3 d) (x.mode, m) _ (number_complete 0 3 d x.mode (e5 ++ after) (omega arith) mode (omega (arith, mode)) (append_assoc (head 0 x.mode) e5 after))
-      ∙ then (string_in 64 64 m) (x.hidden, h) _ (digest m x.hidden ([] ++ after) is.hidden (append_assoc (string x.hidden) [] after)),
+          ∙ then (string_in 64 64 a) (x.code, b) _ (digest a x.code (e2 ++ after) is.code (append_assoc (string x.code) e2 after))
+          ∙ then (string_in 64 64 b) (x.config, c) _ (digest b x.config (e3 ++ after) is.config (append_assoc (string x.config) e3 after))
+          ∙ then (string_in 64 64 c) (x.authority, d) _ (digest c x.authority (e4 ++ after) is.authority (append_assoc (string x.authority) e4 after))
+          ∙ then (number_in 0 3 d) (x.mode, m) _ (number_complete 0 3 d x.mode (e5 ++ after) (omega arith) mode (omega (arith, mode)) (append_assoc (head 0 x.mode) e5 after))
+          ∙ then (string_in 64 64 m) (x.hidden, h) _ (digest m x.hidden ([] ++ after) is.hidden (append_assoc (string x.hidden) [] after)),
       refl,
     )
   where

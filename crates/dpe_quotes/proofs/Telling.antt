@@ -8,7 +8,7 @@ use Rattle.dpe_quotes.specs.declared.words.VerifyRequest.{VerifyRequest}
 use Rattle.dpe_quotes.specs.declared.words.MakeRequest.{MakeRequest}
 use Rattle.dpe_quotes.specs.declared.words.Request.{Request}
 use Rattle.dpe_quotes.specs.declared.words.Request.TheVariants.{Verify, Make}
-use Rattle.dpe_quotes.specs.Ends.{room_for, ComesTo, HasStatus, Takes, Ends}
+use Rattle.dpe_quotes.specs.Ends.{room_for, ComesTo, HasStatus, Ends}
 use Rattle.dpe_quotes.specs.Words.{IsVerify, IsMake, AskFor}
 
 -- ---- words ask for one thing
@@ -65,7 +65,7 @@ status_told asked (Some xs) (Some ys) x y status bytes told ends ok =
     sym (taken (room_for asked) ends.bytes ys ends.takes.few ends.takes.all) ∙ ap (take (room_for asked)) (sym ends.takes.taken ∙ same) in (
       ends.text,
       subst (λ (n : ℕ). ComesTo asked (take (room_for asked) bytes) n ends.text) (sym (ends.status_is ok))
-      (subst (λ (b : List ℕ). ComesTo asked b ends.own ends.text) is ends.comes),
+          (subst (λ (b : List ℕ). ComesTo asked b ends.own ends.text) is ends.comes),
     )
 
 pub complete_told : (words : List (List ℕ)) (request asked : Request) (a b x y : Option (List ℕ)) (status : ℕ) (bytes : List ℕ) → AskFor words request

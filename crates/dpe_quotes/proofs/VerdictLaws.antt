@@ -80,29 +80,29 @@ pub accepts : (seed nonce b : List ℕ) (r : Result ℕ QuoteFault) → AreBytes
 accepts seed nonce b r fits is depth = (
   λ e. subst (Tells seed nonce b) (sym is ∙ e) (verdict_tells seed nonce b fits),
   λ w.
-    is
-    ∙ decided seed nonce b w.quote true true w.spelled ((has_nonce nonce w.quote).1 w.holds.nonce_is) ((has_tag seed w.quote).1 w.holds.proves)
-    ∙ ap Ok w.holds.depth_is,
+      is
+      ∙ decided seed nonce b w.quote true true w.spelled ((has_nonce nonce w.quote).1 w.holds.nonce_is) ((has_tag seed w.quote).1 w.holds.proves)
+      ∙ ap Ok w.holds.depth_is,
 )
 
 pub other_nonce : (seed nonce b : List ℕ) (r : Result ℕ QuoteFault) → AreBytes b → r ≡ verdict seed nonce b → (r ≡ Err Nonce) ↔ QuoteWith b (λ q. q.nonce ≢ nonce)
 other_nonce seed nonce b r fits is = (
   λ e. subst (Tells seed nonce b) (sym is ∙ e) (verdict_tells seed nonce b fits),
   λ w.
-    let q = w.quote in
-    is
-    ∙ decided seed nonce b q false (bytes_eq q.tag (tag_for seed q.path q.nonce)) w.spelled
-    (not_true (bytes_eq q.nonce nonce) (λ e. w.holds ((has_nonce nonce q).0 e))) refl,
+      let q = w.quote in
+      is
+      ∙ decided seed nonce b q false (bytes_eq q.tag (tag_for seed q.path q.nonce)) w.spelled
+      (not_true (bytes_eq q.nonce nonce) (λ e. w.holds ((has_nonce nonce q).0 e))) refl,
 )
 
 pub other_tag : (seed nonce b : List ℕ) (r : Result ℕ QuoteFault) → AreBytes b → r ≡ verdict seed nonce b → (r ≡ Err Tag) ↔ QuoteWith b (ProvesNone seed nonce)
 other_tag seed nonce b r fits is = (
   λ e. subst (Tells seed nonce b) (sym is ∙ e) (verdict_tells seed nonce b fits),
   λ w.
-    let q = w.quote in
-    is
-    ∙ decided seed nonce b q true false w.spelled ((has_nonce nonce q).1 w.holds.0)
-    (not_true (bytes_eq q.tag (tag_for seed q.path q.nonce)) (λ e. w.holds.1 ((has_tag seed q).0 e))),
+      let q = w.quote in
+      is
+      ∙ decided seed nonce b q true false w.spelled ((has_nonce nonce q).1 w.holds.0)
+      (not_true (bytes_eq q.tag (tag_for seed q.path q.nonce)) (λ e. w.holds.1 ((has_tag seed q).0 e))),
 )
 
 none_told : (seed nonce b : List ℕ) (r : Result ℕ QuoteFault) → Tells seed nonce b r → IsMalformed r → (q : Quote) → Spells q b → ⊥
