@@ -20,7 +20,7 @@ const MIN_NONCE: u64 = 8;
 
 const MAX_NONCE: u64 = 64;
 
-/// The most inputs of a quote's path: a context that descends from a default context can be this deep.
+/// The most inputs of a quote's path: a limit of its own, the deepest path that a context will have.
 const MAX_DEPTH: u64 = 32;
 
 /// The label under which a Sign gives the tag.
