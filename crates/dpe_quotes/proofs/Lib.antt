@@ -5,3 +5,7 @@ mod Written
 mod Spelling
 mod Ending
 mod Signing
+mod PartLaws
+mod QuoteLaws
+mod VerdictLaws
+mod Telling

@@ -1,5 +1,5 @@
 -- Accepted signatures under the label are tags of quotes.
-use Rattle.std.proofs.Common.{List, ℕ, sym, ap}
+use Rattle.std.proofs.Common.{List, ℕ, ap}
 use Rattle.dpe_inputs.specs.Cdi.{attest_cdi, signature}
 use Rattle.dpe_messages.specs.Request.{sign}
 use Rattle.dpe_model.specs.History.{path_at, state_after}

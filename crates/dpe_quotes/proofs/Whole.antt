@@ -5,7 +5,8 @@ use Rattle.dpe_inputs.specs.declared.Input.{Input}
 use Rattle.dpe_quotes.specs.Quotes.{Quote}
 use Rattle.dpe_quotes.specs.Reading.{◌>>=◌, array_in, string_in, path_in, ending, quote_at}
 
-then : {A B : Type 0} → (r : Result A ℕ) (x : A) (f : A → Result B ℕ) → r ≡ Ok x → (r >>= f) ≡ f x
+-- a step of a reading that answered
+pub then : {A B : Type 0} → (r : Result A ℕ) (x : A) (f : A → Result B ℕ) → r ≡ Ok x → (r >>= f) ≡ f x
 then r x f e = ap (λ r. r >>= f) e
 
 at_end : (q : Quote) (s : Source) → s.rest ≡ [] → ending q s ≡ Ok q

@@ -37,6 +37,10 @@ ComesTo (Verify asked) bytes status text =
 ComesTo (Make asked) bytes status text =
     (IsPath bytes × (status ≡ 0) × (text ≡ quote_of asked bytes)) ⊎ ((IsPath bytes → ⊥) × (status ≡ 9) × (text ≡ []))
 
+-- bytes come to this status
+abbrev pub HasStatus : Request → List ℕ → ℕ → Type 0
+HasStatus asked bytes status = (text : List ℕ) × ComesTo asked bytes status text
+
 -- the most bytes that are read
 abbrev pub room_for : Request → ℕ
 room_for (Verify asked) = 8648

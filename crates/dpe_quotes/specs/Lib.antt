@@ -2,6 +2,7 @@ pub mod Quotes
 pub mod Reading
 pub mod Claimed
 pub mod Verdicts
+pub mod Spelled
 pub mod Words
 pub mod Stored
 pub mod Ends

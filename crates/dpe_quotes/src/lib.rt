@@ -10,7 +10,7 @@ mod verifying;
 mod words;
 mod writing;
 
-pub use laws::signs_prove;
+pub use laws::{quotes_are_read, signs_prove};
 pub use program::quote_main;
 pub use verifying::{QuoteFault, verify};
 pub use writing::write_quote;

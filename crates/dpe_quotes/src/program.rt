@@ -1,10 +1,10 @@
 //! What the program does.
-ghost use Rattle.std.specs.Prelude.{◌≡◌, ◌≢◌, ◌↔◌};
+ghost use Rattle.std.specs.Prelude.{◌≡◌, ◌≢◌, ◌↔◌, ℕ, List, Some, take};
 ghost use Rattle.std.specs.Io.KnownBytes.{Appends};
 ghost use Rattle.dpe_io.specs.Causes.{Rose};
 ghost use Rattle.dpe_text.specs.Writing.{AppendsFront};
-ghost use Rattle.dpe_quotes.specs.Ends.{Ends, ForRequest, IsStatus, line_of, verdict_status};
-ghost use Rattle.dpe_quotes.specs.Words.{AreFaulty, texts};
+ghost use Rattle.dpe_quotes.specs.Ends.{Ends, ForRequest, HasStatus, IsStatus, line_of, room_for, verdict_status};
+ghost use Rattle.dpe_quotes.specs.Words.{AreFaulty, AskFor, texts};
 
 use crate::stored::{BLANK, INPUT_SIZE, MAX_INPUTS, read_path};
 use crate::verifying::{QuoteFault, verify};
@@ -132,6 +132,13 @@ pub fn quote_main<S: Source, K: Sink>(words: &[&str], source: &mut S, sink: &mut
     // Every other status is that of the source's bytes, and what they come to is written.
     ensures ends { result ≢ 2 → result ≢ 4 → ForRequest (texts words.now) (λ asked.
         Ends asked (S.left source.old) (S.left source.new) (K.bytes sink.old) (K.bytes sink.new) result) }
+
+    // Right words and no fault give the status of the bytes that a source tells, of as many as are read at most.
+    ensures complete { (asked : Request) (bytes : List ℕ) → AskFor (texts words.now) asked
+        → S.left source.old ≡ Some bytes
+        → (Rose (S.faults source.old) (S.faults source.new) → ⊥)
+        → (Rose (K.faults sink.old) (K.faults sink.new) → ⊥)
+        → HasStatus asked (take (room_for asked) bytes) result }
 {
     let Some(request) = read_words(words) else {
         return 2;

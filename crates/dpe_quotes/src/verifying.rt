@@ -1,10 +1,12 @@
 //! Verifying a quote. The path is folded while it is read.
-ghost use Rattle.std.specs.Prelude.{◌≡◌, ◌≤◌, length, codes, IfErr};
+ghost use Rattle.std.specs.Prelude.{◌≡◌, ◌≢◌, ◌≤◌, ◌↔◌, ℕ, Ok, Err, length, codes, IfErr};
 ghost use Rattle.std.specs.Str.{bytes_eq};
 ghost use Rattle.sha2.specs.Sha512.{sha512};
 ghost use Rattle.dpe_inputs.specs.Cdi.{attest_step, measured, signature as signature_of};
 ghost use Rattle.dpe_quotes.specs.Claimed.{claimed};
+ghost use Rattle.dpe_quotes.specs.Quotes.{Quote};
 ghost use Rattle.dpe_quotes.specs.Reading.{Within};
+ghost use Rattle.dpe_quotes.specs.Spelled.{IsMalformed, ProvesDepth, ProvesNone, QuoteWith, Spells};
 ghost use Rattle.dpe_quotes.specs.Verdicts.{claims_verdict, Folded, ReadsClaims, verdict};
 
 use crate::parts::{ClaimedInput, DIGEST_SIZE, PARTS, read_array, read_input, read_string};
@@ -18,7 +20,7 @@ const MIN_NONCE: u64 = 8;
 
 const MAX_NONCE: u64 = 64;
 
-/// The most inputs of a quote's path: a context that descends from a default context can be this deep.
+/// The most inputs of a quote's path: a limit of its own, the deepest path that a context will have.
 const MAX_DEPTH: u64 = 32;
 
 /// The label under which a Sign gives the tag.
@@ -134,6 +136,19 @@ fn judge(claims: &Claims<'_>, nonce: &[u8]) -> Result<u8, QuoteFault>
     Ok(claims.depth)
 }
 
+// Reads a quote, and says what is to be said of it.
+fn check(seed: &[u8; 32], nonce: &[u8], quote: &[u8]) -> Result<u8, QuoteFault>
+    requires { length quote.now ≤ 8648 }
+    ensures { result ≡ verdict seed.now nonce.now quote.now }
+{
+    match read_claims(seed, quote) {
+        Ok(claims) => judge(&claims, nonce),
+        Err(fault) => Err(QuoteFault::Malformed {
+            at: fault.at as u32,
+        }),
+    }
+}
+
 /// Checks a quote of at most 8,648 bytes, and answers the depth of the path that it proves: its number of inputs, 0 to 32.
 ///
 /// # Errors
@@ -142,12 +157,17 @@ fn judge(claims: &Claims<'_>, nonce: &[u8]) -> Result<u8, QuoteFault>
 /// prove its path.
 pub fn verify(seed: &[u8; 32], nonce: &[u8], quote: &[u8]) -> Result<u8, QuoteFault>
     requires { length quote.now ≤ 8648 }
+
+    // The answer, and the place of a fault.
     ensures verdict { result ≡ verdict seed.now nonce.now quote.now }
+
+    // Ok: exactly where the bytes are a quote with this nonce that proves its path, which is as deep.
+    ensures accepted { (n : ℕ) → (result ≡ Ok n) ↔ QuoteWith quote.now (ProvesDepth seed.now nonce.now n) }
+
+    // Each fault: exactly where the bytes are no quote, have another nonce, or don't prove their path.
+    ensures malformed { IsMalformed result ↔ ((q : Quote) → Spells q quote.now → ⊥) }
+    ensures other_nonce { (result ≡ Err QuoteFault.Nonce) ↔ QuoteWith quote.now (λ q. q.nonce ≢ nonce.now) }
+    ensures other_tag { (result ≡ Err QuoteFault.Tag) ↔ QuoteWith quote.now (ProvesNone seed.now nonce.now) }
 {
-    match read_claims(seed, quote) {
-        Ok(claims) => judge(&claims, nonce),
-        Err(fault) => Err(QuoteFault::Malformed {
-            at: fault.at as u32,
-        }),
-    }
+    check(seed, nonce, quote)
 }

@@ -2,7 +2,8 @@
 ghost use Rattle.std.specs.Prelude.{◌≡◌, ◌≤◌, ◌<◌, ◌+◌, ◌++◌, All, length, take, drop};
 ghost use Rattle.dpe_cbor.specs.Encoding.{encoding, head, items_encoding};
 ghost use Rattle.dpe_cbor.specs.Written.{Appends};
-ghost use Rattle.dpe_quotes.specs.Quotes.{input_item, input_items, quote_bytes};
+ghost use Rattle.dpe_quotes.specs.Quotes.{input_item, input_items, IsInput};
+ghost use Rattle.dpe_quotes.specs.Spelled.{Spells};
 
 use crate::parts::{FIELDS, PARTS};
 use dpe_cbor::Writer;
@@ -54,6 +55,7 @@ fn put_input(writer: &mut Writer<'_>, input: &Input)
     requires mode { input.now.mode ≤ 3 }
     requires room { writer.old.len + 266 ≤ length writer.old.room.now }
     ensures written { Appends writer.old writer.new (encoding (input_item input.now)) }
+    ensures is_input { IsInput input.now }
     ensures len { writer.new.len ≤ writer.old.len + 266 }
 {
     put_array(writer, FIELDS);
@@ -71,6 +73,7 @@ fn put_path(writer: &mut Writer<'_>, path: &[Input])
     requires room { writer.old.len + 8514 ≤ length writer.old.room.now }
     ensures written { Appends writer.old writer.new (head 4 (length path.now) ++ items_encoding (input_items path.now)) }
     ensures len { writer.new.len ≤ writer.old.len + 8514 }
+    ensures inputs { All IsInput path.now }
 {
     put_path_head(writer, path.len() as u64);
     for input in path {
@@ -87,7 +90,7 @@ pub fn write_quote(path: &[Input], nonce: &[u8], tag: &[u8; 64], room: &mut [u8;
     requires least { 8 ≤ length nonce.now }
     requires most { length nonce.now ≤ 64 }
     ensures within { result ≤ MAX_QUOTE }
-    ensures written { take result room.new ≡ quote_bytes (record { nonce = nonce.now; path = path.now; tag = tag.now }) }
+    ensures written { Spells (record { nonce = nonce.now; path = path.now; tag = tag.now }) (take result room.new) }
     ensures behind { drop result room.new ≡ drop result room.old }
 {
     let mut writer = Writer::new(room);

@@ -16,7 +16,7 @@ returns-clause-ends g c four =
     let bytes = take c.in-Ok.count c.fill.new.room in
     let path = take c.in-Some.depth c.read_path.new.path in
     let is : take c.write_quote-len.result c.write_quote-len.new.room ≡ quote_of c.args.asked.now bytes =
-    c.write_quote-len.ensures.written
+    c.write_quote-len.ensures.written.1
     ∙ ap (λ (n : List ℕ). quote_bytes (record { nonce = n; path = path; tag = c.args.asked.now.tag })) c.bytes.ensures.bytes
     ∙ ap (λ (p : List Input). quote_bytes (record { nonce = c.args.asked.now.nonce; path = p; tag = c.args.asked.now.tag })) c.in-Some.ensures.path in
     make_ends c.args.asked.now (g.S.Source.left c.args.source.now) (g.S.Source.left c.fill.new.source) (g.K.Sink.bytes c.args.sink.now) (g.K.Sink.bytes c.send_status.new.sink)
