@@ -4,6 +4,7 @@ mod Whole
 mod Written
 mod Spelling
 mod Ending
+mod Lineages
 mod Signing
 mod PartLaws
 mod QuoteLaws

@@ -52,7 +52,8 @@ pub record Takes (most : ℕ) (old new : Option (List ℕ)) (bytes : List ℕ) :
   pub few : length bytes ≤ most
   pub all : length bytes < most → IsAtEnd new
 
--- Bytes were taken, and what they come to was written. 7: the sink failed, and a front of it was.
+-- Bytes were taken, and what they come to was written. 7: the sink failed, and a front of it was. Bytes that are no path have
+-- status 9, whatever the sink does.
 pub record Ends (asked : Request) (left_old left_new got_old got_new : Option (List ℕ)) (status : ℕ) : Type 0 where
   pub bytes : List ℕ
   pub takes : Takes (room_for asked) left_old left_new bytes
@@ -60,6 +61,7 @@ pub record Ends (asked : Request) (left_old left_new got_old got_new : Option (L
   pub text : List ℕ
   pub comes : ComesTo asked bytes own text
   pub status_is : status ≢ 7 → status ≡ own
+  pub no_path : own ≡ 9 → status ≡ 9
   pub written : status ≢ 7 → Appends got_old got_new text
   pub unsent : status ≡ 7 → AppendsFront got_old got_new text
 

@@ -2,8 +2,8 @@
 ghost use Rattle.dpe_quotes.specs.Laws.{SignsProve};
 ghost use Rattle.dpe_quotes.specs.Spelled.{ReadsSpelled};
 
-/// The signature of an accepted Sign under the label `DPE-QUOTE` makes, with the path at its entry, a quote that proves this
-/// path.
+/// The signature of an accepted Sign under the label `DPE-QUOTE`, of a message of 8 to 64 bytes, makes with the path at its
+/// entry a quote that proves this path.
 pub fn signs_prove()
     ensures { SignsProve }
 {}

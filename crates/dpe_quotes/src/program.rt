@@ -2,6 +2,7 @@
 ghost use Rattle.std.specs.Prelude.{◌≡◌, ◌≢◌, ◌↔◌, ℕ, List, Some, take};
 ghost use Rattle.std.specs.Io.KnownBytes.{Appends};
 ghost use Rattle.dpe_io.specs.Causes.{Rose};
+ghost use Rattle.dpe_link.specs.Reading.{TakesPart};
 ghost use Rattle.dpe_text.specs.Writing.{AppendsFront};
 ghost use Rattle.dpe_quotes.specs.Ends.{Ends, ForRequest, HasStatus, IsStatus, line_of, room_for, verdict_status};
 ghost use Rattle.dpe_quotes.specs.Words.{AreFaulty, AskFor, texts};
@@ -75,6 +76,7 @@ fn run_verify<S: Source, K: Sink>(asked: &VerifyRequest, source: &mut S, sink: &
     ensures ends { result ≢ 4 → Ends (Request.Verify asked.now) (S.left source.old) (S.left source.new)
         (K.bytes sink.old) (K.bytes sink.new) result }
     ensures unread { result ≡ 4 → Rose (S.faults source.old) (S.faults source.new) × (sink.new ≡ sink.old) }
+    ensures part { result ≡ 4 → TakesPart (S.left source.old) (S.left source.new) 8648 }
     ensures sink_fault { result ≡ 7 → Rose (K.faults sink.old) (K.faults sink.new) }
     ensures source_kept { result ≢ 4 → S.faults source.new ≡ S.faults source.old }
     ensures sink_kept { result ≢ 7 → K.faults sink.new ≡ K.faults sink.old }
@@ -93,6 +95,7 @@ fn run_make<S: Source, K: Sink>(asked: &MakeRequest, source: &mut S, sink: &mut 
     ensures ends { result ≢ 4 → Ends (Request.Make asked.now) (S.left source.old) (S.left source.new)
         (K.bytes sink.old) (K.bytes sink.new) result }
     ensures unread { result ≡ 4 → Rose (S.faults source.old) (S.faults source.new) × (sink.new ≡ sink.old) }
+    ensures part { result ≡ 4 → TakesPart (S.left source.old) (S.left source.new) 8225 }
     ensures sink_fault { result ≡ 7 → Rose (K.faults sink.old) (K.faults sink.new) }
     ensures source_kept { result ≢ 4 → S.faults source.new ≡ S.faults source.old }
     ensures sink_kept { result ≢ 7 → K.faults sink.new ≡ K.faults sink.old }
@@ -123,13 +126,17 @@ pub fn quote_main<S: Source, K: Sink>(words: &[&str], source: &mut S, sink: &mut
     ensures words { (result ≡ 2) ↔ AreFaulty (texts words.now) }
     ensures untouched { result ≡ 2 → (source.new ≡ source.old) × (sink.new ≡ sink.old) }
 
-    // 4: only where the source failed, and nothing is written. 7: only where the sink failed.
+    // 4: only where the source failed, after fewer bytes than are read at most, and nothing is written. 7: only where the
+    // sink failed.
     ensures unread { result ≡ 4 → Rose (S.faults source.old) (S.faults source.new) × (sink.new ≡ sink.old) }
+    ensures part { result ≡ 4 → ForRequest (texts words.now) (λ asked.
+        TakesPart (S.left source.old) (S.left source.new) (room_for asked)) }
     ensures sink_fault { result ≡ 7 → Rose (K.faults sink.old) (K.faults sink.new) }
     ensures source_kept { result ≢ 4 → S.faults source.new ≡ S.faults source.old }
     ensures sink_kept { result ≢ 7 → K.faults sink.new ≡ K.faults sink.old }
 
-    // Every other status is that of the source's bytes, and what they come to is written.
+    // Every other status is that of the source's bytes, and what they come to is written. So 9 comes exactly where they
+    // are to be a path and are none.
     ensures ends { result ≢ 2 → result ≢ 4 → ForRequest (texts words.now) (λ asked.
         Ends asked (S.left source.old) (S.left source.new) (K.bytes sink.old) (K.bytes sink.new) result) }
 
