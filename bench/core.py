@@ -2,8 +2,9 @@
 """Counts the instructions of commands inside the executor, by valgrind's callgrind, and takes their times.
 
 Run it at the top of the repository after `rt run` in crates/core_bench and crates/keys_bench. A command that can be done many
-times over is the difference of 612 and 100 of them, by 512: so each of 256 contexts has the command twice. One that destroys
-is done once. Words behind the script's name are the commands to count; `time` alone takes the times.
+times over is the difference of 2,148 and 100 of them, by 2,048: so each of 1,024 contexts has the command twice. One that
+destroys is done once, and so is one on the default context, whose handle is the oldest then. Words behind the script's name
+are the commands to count; `default` counts those on the default context, and `time` alone takes the times.
 """
 import re
 import sys
@@ -20,7 +21,9 @@ KIT = re.compile(r"<?(sha2|rand_chacha)::")
 KEYED = ["sign", "seal", "unseal", "derive"]
 # The commands that end what they are done on.
 ONCE = ["destroy", "recursive", "family"]
-FEW, MANY = 100, 612
+FEW, MANY = 100, 2148
+# The most live contexts, and the depth of the deepest.
+MOST_LIVE, MOST_DEPTH = 1024, 32
 # Around a session of 0 and a byte string, a code of 0.
 ACCEPTED = re.compile("8200(4.|5[0-7]|58..|59....)8200")
 
@@ -32,9 +35,9 @@ ROUNDS = 15
 class Spent:
     """The instructions of a run inside the executor."""
 
-    def __init__(self, live, depth, kind, count):
+    def __init__(self, live, depth, kind, context, count):
         options = ["--compress-strings=no", "--compress-pos=no", f"--toggle-collect={EXECUTE}*"]
-        _, printed, lines = callgrind([BENCH, str(live), str(depth), kind, str(count)], options)
+        _, printed, lines = callgrind([BENCH, str(live), str(depth), kind, str(count), context], options)
         self.printed = printed.decode().strip()
         self.costs = {}
         self.read(lines)
@@ -53,11 +56,11 @@ class Spent:
 
 
 class Command:
-    """What one command spends."""
+    """What one command spends, on the oldest context by its handle or on the default one."""
 
-    def __init__(self, live, depth, kind):
-        few, many = (0, 1) if kind in ONCE else (FEW, MANY)
-        before, after = Spent(live, depth, kind, few), Spent(live, depth, kind, many)
+    def __init__(self, live, depth, kind, context="handle", once=False):
+        few, many = (0, 1) if once or kind in ONCE else (FEW, MANY)
+        before, after = Spent(live, depth, kind, context, few), Spent(live, depth, kind, context, many)
         if not ACCEPTED.match(after.printed):
             sys.exit(f"{kind}: {after.printed}")
         turns = many - few
@@ -86,13 +89,23 @@ def beside(kind, most_live, most_depth):
             print(f"    {cost:.0f} {name}, at {most_live} contexts {crowd.functions.get(name, 0):.0f}")
 
 
+def by_default():
+    """One command on the default context beside one by handle, each on the oldest context, alone and among many."""
+    for kind in ["rotate", "sign", "seal", "unseal", "derive", "destroy"]:
+        for live in [1, MOST_LIVE - (kind == "derive")]:
+            depth = 0 if live == 1 else 1
+            named, default = (Command(live, depth, kind, context, True).all for context in ["handle", "default"])
+            print(f"{kind} at {live}: by handle {named:.0f}, of the default context {default:.0f}, {default / named:.3f}")
+
+
 def family():
     """What a recursive DestroyContext of a root takes for each row, at both depths of the contexts below it."""
-    for depth in [1, 16]:
-        few, many = Command(128, depth, "family"), Command(256, depth, "family")
-        print(f"family at depth {depth}: {many.all:.0f} at 256 contexts, {(many.all - few.all) / 128:.0f} a row")
-    few, many = Command(128, 1, "recursive"), Command(256, 1, "recursive")
-    print(f"recursive: {many.all:.0f} at 256 contexts, {(many.all - few.all) / 128:.0f} a row that is spared")
+    half = MOST_LIVE // 2
+    for depth in [1, MOST_DEPTH]:
+        few, many = Command(half, depth, "family"), Command(MOST_LIVE, depth, "family")
+        print(f"family at depth {depth}: {many.all:.0f} at {MOST_LIVE} contexts, {(many.all - few.all) / half:.0f} a row")
+    few, many = Command(half, 1, "recursive"), Command(MOST_LIVE, 1, "recursive")
+    print(f"recursive: {many.all:.0f} at {MOST_LIVE} contexts, {(many.all - few.all) / half:.0f} a row that is spared")
 
 
 def times():
@@ -100,7 +113,7 @@ def times():
     turns = str(TIMES)
     runs = {"block": ([KEYS, "straight", "hmac", str(10 * TIMES)],), "nothing": ([KEYS, "straight", "hmac", "0"],)}
     for kind in ["rotate", *KEYED]:
-        runs[kind] = ([BENCH, "1", "0", kind, turns],)
+        runs[kind] = ([BENCH, "1", "0", kind, turns, "handle"],)
     for kind in KEYED:
         runs[f"keyed {kind}"] = ([KEYS, "ours", kind, turns],)
     best = least(runs, ROUNDS)
@@ -115,16 +128,19 @@ def times():
 
 
 def main():
-    for kind in sys.argv[1:] or ["rotate", "sign", "seal", "unseal", "derive", "destroy", "recursive", "family", "time"]:
+    every = ["rotate", "sign", "seal", "unseal", "derive", "destroy", "recursive", "family", "default", "time"]
+    for kind in sys.argv[1:] or every:
         if kind == "family":
             family()
+        elif kind == "default":
+            by_default()
         elif kind == "time":
             times()
-        # A child is derived in each turn, so that one context less lives, and its parent is no deeper than 15.
+        # A child is derived in each turn, so that one context less lives, and its parent is less deep by one.
         elif kind == "derive":
-            beside(kind, 255, 15)
+            beside(kind, MOST_LIVE - 1, MOST_DEPTH - 1)
         else:
-            beside(kind, 256, 16)
+            beside(kind, MOST_LIVE, MOST_DEPTH)
 
 
 if __name__ == "__main__":

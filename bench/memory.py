@@ -24,7 +24,7 @@ TAPE = b"".join(bytes(33) + frame for frame in (INITIALIZE, PROFILE))
 # The journal of one GetProfile (docs/JOURNAL.md).
 JOURNAL = (
     b"DPEJ\x01" + (1).to_bytes(8, "big") + b"\x01" + (7).to_bytes(4, "big") + bytes(41) + b"\x00\x06" + PROFILE[4:]
-    + b"\x00\x22\x82\x00\x58\x1e\x82\x00\xa4\x01odpe-symmetric-1\x02\x19\x10\x00\x03\x19\x01\x00\x04\x10"
+    + b"\x00\x23\x82\x00\x58\x1f\x82\x00\xa4\x01odpe-symmetric-2\x02\x19\x10\x00\x03\x19\x04\x00\x04\x18\x20"
     + b"\xff" + (1).to_bytes(8, "big")
 )
 SCRIPT = b"0 init rom\n0 derive rom kid code=*11 config=*21 authority=*31 mode=1 keep=rom2\n0 sign kid message=6869\n"

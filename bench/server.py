@@ -21,7 +21,7 @@ HERE = Path(__file__).resolve().parent / "server"
 SERVER = HERE.parent.parent / "crates/dpe_server/out/dpe_server"
 FLAGS = ["-std=c11", "-D_GNU_SOURCE", "-O2", "-march=x86-64-v2", "-pthread"]
 SECONDS_TO_OPEN, SECONDS_OF_A_RUN = 60, 300
-MOST_ENTRIES, MOST_CONTEXTS = 65536, 255
+MOST_ENTRIES = 65536
 
 # The headers of a compiler, for the kit's, which has none.
 HEADERS = {
@@ -205,11 +205,11 @@ def read_words():
     parser.add_argument("--compiler", metavar="NAME", help="default: cc, clang or gcc, or else that of the kit")
     words = parser.parse_args()
     some = [1, 16] if words.processors else [1, 4, 8, 16]
-    words.doors = words.doors or [doors for doors in some if doors * words.underway <= MOST_CONTEXTS]
+    words.doors = words.doors or some
     if min(words.doors) < 1 or max(words.doors) > 16 or words.repeats < 1 or words.commands < max(words.doors):
         parser.error("the numbers are at least 1, the doors at most 16, and the commands at least the doors")
-    if not 1 <= words.underway <= 16 or max(words.doors) * words.underway > MOST_CONTEXTS:
-        parser.error(f"1 to 16 commands are under way, and at most {MOST_CONTEXTS} at all doors")
+    if not 1 <= words.underway <= 16:
+        parser.error("1 to 16 commands are under way at a door")
     if 1 + max(words.doors) * words.underway + words.commands > MOST_ENTRIES:
         parser.error(f"a journal has at most {MOST_ENTRIES} entries")
     return words

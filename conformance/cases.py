@@ -2,9 +2,18 @@
 import keys
 from cbor import frame, payload_of
 from model import DERIVE, DESTROY, GET_PROFILE, INITIALIZE, ROTATE, SEAL, SIGN, UNSEAL
-from session import LAYER, ZERO_RANDOM, ZERO_SEED, raw_message, raw_payload, times
+from session import BY_DEFAULT, LAYER, ZERO_RANDOM, ZERO_SEED, naming, raw_message, raw_payload, times
 
 NEVER_MADE = times(0xEE, 16)
+# A command of each kind that uses a context, with no handle.
+WITHOUT_HANDLES = (
+    ("derive", DERIVE, LAYER),
+    ("sign", SIGN, {4: True, 5: b"hi"}),
+    ("seal", SEAL, {6: b"hi"}),
+    ("unseal", UNSEAL, {5: b""}),
+    ("rotate", ROTATE, {}),
+    ("destroy", DESTROY, {}),
+)
 KEY_NAMES = {2: "code", 3: "configuration", 4: "descriptor", 5: "authority", 6: "mode", 7: "hidden", 8: "retain"}
 
 
@@ -28,6 +37,22 @@ def page(session):
     session.rotate("rotate-a-spent-handle", root, code=17)
     session.heading("What was derived from the root was destroyed with it.")
     session.rotate("rotate-the-destroyed-child", child, code=17)
+
+
+def page_defaults(session):
+    """The examples of docs/PROTOCOL.md with default contexts, whose random bytes are zeros."""
+    session.start(seed=ZERO_SEED)
+    session.random = ZERO_RANDOM
+    session.heading("The root as the default context of locality 0, and a child as that of locality 3.")
+    session.root("root-as-default", default=True)
+    session.derive("a-second-default-at-0", BY_DEFAULT, code=29, retain=True, target=0, default=True)
+    child, _ = session.derive("a-default-at-3", BY_DEFAULT, retain=True, target=3, default=True)
+    session.heading("A handle is judged as ever, and the refusal leaves both defaults as they were.")
+    session.rotate("the-child-elsewhere", child, code=18)
+    session.destroy("destroy-the-default-at-3", BY_DEFAULT, locality=3)
+    session.destroy("no-default-at-3", BY_DEFAULT, locality=3, code=28)
+    session.rotate("no-default-any-more", BY_DEFAULT)
+    session.rotate("no-default-at-0", BY_DEFAULT, code=28)
 
 
 def boot(session):
@@ -323,13 +348,11 @@ def outside(session):
     session.heading("Arguments that ask for more. This comes before code 3: some of these maps have unknown keys, or lack "
                     "required ones.")
     session.command("simulation", 0, INITIALIZE, {1: True}, 16)
-    session.command("use-default-context", 0, INITIALIZE, {2: True}, 16)
     session.command("create-certificate", 0, DERIVE, {11: True}, 16)
     session.command("sign-not-symmetric", 0, SIGN, {1: NEVER_MADE, 4: False, 5: b"hi"}, 16)
     session.command("sign-without-key-4", 0, SIGN, {1: NEVER_MADE, 5: b"hi"}, 16)
     session.command("sign-without-anything", 0, SIGN, {}, 16)
     session.command("unseal-asymmetric", 0, UNSEAL, {4: True, 99: 0}, 16)
-    session.command("to-be-default", 0, ROTATE, {1: NEVER_MADE, 2: True}, 16)
     session.heading("And where nothing else of the command is wrong but its handle.")
     session.command("create-certificate-else-right", 0, DERIVE, LAYER | {1: NEVER_MADE, 11: True}, 16)
     session.command("unseal-asymmetric-else-right", 0, UNSEAL, {1: NEVER_MADE, 4: True, 5: b""}, 16)
@@ -341,7 +364,6 @@ def outside(session):
         ("is-symmetric-zero", SIGN, {1: NEVER_MADE, 4: 0, 5: b"hi"}),
         ("is-symmetric-no-bytes", SIGN, {1: NEVER_MADE, 4: b"", 5: b"hi"}),
         ("is-asymmetric-a-text", UNSEAL, {1: NEVER_MADE, 4: "no", 5: b""}),
-        ("to-be-default-a-string", ROTATE, {1: NEVER_MADE, 2: b""}),
     ):
         session.command(name, 0, number, fields, 3)
     session.heading("Where they are written false they ask for nothing: the commands are executed.")
@@ -368,26 +390,27 @@ def arguments(session):
     """Code 3: arguments that are absent, unknown, of another kind or out of range."""
     handle = session.root()
     commands = {
-        "initialize": (INITIALIZE, {}, ()),
-        "derive": (DERIVE, LAYER | {1: handle, 7: times(0), 8: False, 9: True, 10: 0}, (1, 2, 3, 5, 6)),
-        "sign": (SIGN, {1: handle, 2: b"", 3: False, 4: True, 5: b"hi"}, (1, 5)),
-        "seal": (SEAL, {1: handle, 2: b"", 3: False, 4: 255, 5: 15, 6: b"hi"}, (1, 6)),
-        "unseal": (UNSEAL, {1: handle, 2: b"", 3: False, 4: False, 5: b""}, (1, 5)),
-        "rotate": (ROTATE, {1: handle, 2: False}, (1,)),
-        "destroy": (DESTROY, {1: handle, 2: False}, (1,)),
+        "initialize": (INITIALIZE, {1: False, 2: False}, ()),
+        "derive": (DERIVE, LAYER | {1: handle, 7: times(0), 8: False, 9: True, 10: 0, 12: False}, (2, 3, 5, 6)),
+        "sign": (SIGN, {1: handle, 2: b"", 3: False, 4: True, 5: b"hi"}, (5,)),
+        "seal": (SEAL, {1: handle, 2: b"", 3: False, 4: 255, 5: 15, 6: b"hi"}, (6,)),
+        "unseal": (UNSEAL, {1: handle, 2: b"", 3: False, 4: False, 5: b""}, (5,)),
+        "rotate": (ROTATE, {1: handle, 2: False}, ()),
+        "destroy": (DESTROY, {1: handle, 2: False}, ()),
     }
     session.heading("A key that the command doesn't have.")
     session.command("profile-key-1", 0, GET_PROFILE, {1: False}, 3)
     for name, (number, fields, _) in commands.items():
         session.command(f"{name}-key-99", 0, number, fields | {99: 0}, 3)
     session.command("rotate-key-0", 0, ROTATE, {0: 0, 1: handle}, 3)
+    session.command("derive-key-13", 0, DERIVE, commands["derive"][1] | {13: False}, 3)
     for key in 23, 24, 255, 256, 65535, 65536, 2**32 - 1, 2**32, 2**64 - 1:
         session.command(f"rotate-key-{key}", 0, ROTATE, {1: handle, key: key}, 3)
     session.heading("Values that are encoded as they should be, and that no argument has.")
     session.command("text-of-every-length-of-utf-8", 0, INITIALIZE, {1: "a\u00e9\u20ac\U0001f600"}, 3)
     session.command("text-of-no-bytes", 0, INITIALIZE, {2: ""}, 3)
     session.command("string-of-256-bytes", 0, INITIALIZE, {1: times(0, 256)}, 3)
-    session.heading("A required key that is absent.")
+    session.heading("A required key that is absent. The handle isn't one: without it the default context is used.")
     for name, (number, fields, required) in commands.items():
         for key in required:
             session.command(f"{name}-without-key-{key}", 0, number, without(fields, key), 3)
@@ -457,35 +480,139 @@ def order(session):
     session.unseal("not-live", closed, b"", locality=4, code=17)
 
 
+def defaults(session):
+    """Default contexts: what a command without a handle uses, and which commands make, keep, move and end a default."""
+    root = session.root(default=True)
+    session.heading("Each command without a handle uses the default context of its locality, whose new handle is told as ever.")
+    session.sign("sign", BY_DEFAULT)
+    _, box = session.seal("seal", BY_DEFAULT)
+    session.unseal("unseal", BY_DEFAULT, box)
+    child, root = session.derive("derive", BY_DEFAULT, retain=True)
+    session.heading("The default context has a handle, which is spent like any other; a use by it keeps the default too.")
+    root, _ = session.sign("sign-by-its-handle", root)
+    session.sign("sign-by-default", BY_DEFAULT)
+    session.sign("its-handle-was-spent", root, code=17)
+    session.heading("28: a locality has a default context only where one was made there, whatever else lives there.")
+    away, root = session.derive("a-child-at-1", BY_DEFAULT, retain=True, target=1)
+    for name, number, fields in WITHOUT_HANDLES:
+        session.command(f"{name}-at-1", 1, number, fields, 28)
+        session.command(f"{name}-at-7", 7, number, fields, 28)
+    session.heading("A child as the default context of another locality, with its parent retained and without.")
+    session.derive("a-default-at-2", BY_DEFAULT, retain=True, target=2, default=True)
+    session.sign("it-signs", BY_DEFAULT, locality=2)
+    session.derive("a-default-at-3-without-retain", BY_DEFAULT, locality=2, target=3, default=True)
+    session.sign("no-default-at-2", BY_DEFAULT, locality=2, code=28)
+    session.sign("it-signs-at-3", BY_DEFAULT, locality=3)
+    session.heading("A child in its parent's place, as a boot does where each layer is the default one.")
+    session.derive("a-child-in-its-place", BY_DEFAULT, locality=3, default=True)
+    session.derive("a-grandchild-in-its-place", BY_DEFAULT, locality=3, default=True)
+    _, box = session.seal("it-seals", BY_DEFAULT, locality=3)
+    session.heading("A refusal leaves the default as it was.")
+    session.unseal("no-box", BY_DEFAULT, b"", locality=3, code=22, retain=False)
+    session.unseal("another-context", BY_DEFAULT, box, code=23, retain=False)
+    session.unseal("it-unseals", BY_DEFAULT, box, locality=3)
+    session.heading("RotateContextHandle decides anew: without to-be-default the default ends, and with it a context becomes one.")
+    renewed = session.rotate("not-any-more", BY_DEFAULT, locality=3)
+    session.rotate("no-default-at-3", BY_DEFAULT, locality=3, code=28)
+    session.rotate("to-be-default", renewed, locality=3, default=True)
+    session.rotate("to-be-default-again", BY_DEFAULT, locality=3, default=True)
+    session.sign("it-signs-again", BY_DEFAULT, locality=3)
+    session.rotate("at-1-to-be-default", away, locality=1, default=True)
+    session.command("to-be-default-written-false", 1, ROTATE, {2: False})
+    session.sign("no-default-at-1", BY_DEFAULT, locality=1, code=28)
+    session.heading("What ends a context ends its default: a use without retain, a destroy, and a recursive one of an ancestor.")
+    session.sign("sign-not-retained", BY_DEFAULT, locality=3, retain=False)
+    session.sign("no-default-at-3-again", BY_DEFAULT, locality=3, code=28)
+    session.derive("a-default-at-4", BY_DEFAULT, retain=True, target=4, default=True)
+    session.destroy("destroy-by-default", BY_DEFAULT, locality=4)
+    session.destroy("no-default-at-4", BY_DEFAULT, locality=4, code=28)
+    session.derive("a-default-at-5", BY_DEFAULT, retain=True, target=5, default=True)
+    session.derive("a-parent-that-ends", child, target=6)
+    session.destroy("destroy-all-by-default", BY_DEFAULT, recursively=True)
+    session.destroy("no-default-at-0", BY_DEFAULT, code=28)
+    session.destroy("no-default-at-5", BY_DEFAULT, locality=5, code=28)
+
+
+def default_order(session):
+    """Codes 28 and 29, and which comes first where several apply."""
+    session.heading("28 before any root, and where the root isn't a default context. An argument's fault comes before it.")
+    session.rotate("before-the-root", BY_DEFAULT, code=28)
+    root = session.root()
+    session.rotate("the-root-is-no-default", BY_DEFAULT, code=28)
+    session.unseal("no-default-before-22", BY_DEFAULT, b"", code=28)
+    session.command("a-message-is-absent", 0, SIGN, {4: True}, 3)
+    session.command("not-symmetric", 0, SIGN, {5: b"hi"}, 16)
+    session.command("a-handle-of-no-bytes", 0, ROTATE, {1: b""}, 3)
+    session.heading("29 of DeriveContext: the target locality has a default context, and it isn't the one that is used.")
+    one, root = session.derive("a-default-at-1", root, retain=True, target=1, default=True)
+    session.derive("a-second-at-1", root, code=29, target=1, default=True)
+    session.derive("a-second-at-1-with-retain", root, code=29, retain=True, target=1, default=True)
+    plain, root = session.derive("no-default-at-1", root, retain=True, target=1)
+    session.derive("from-another-there", plain, locality=1, code=29, default=True)
+    session.heading("Or it is the one that is used, and stays beside its child.")
+    session.derive("beside-the-default", BY_DEFAULT, locality=1, code=29, retain=True, default=True)
+    session.derive("beside-the-default-target-written", one, locality=1, code=29, retain=True, target=1, default=True)
+    session.heading("29 of RotateContextHandle: another context of its locality is the default one.")
+    session.rotate("a-second-by-rotation", plain, locality=1, code=29, default=True)
+    session.heading("A default context at one locality is nothing to another one.")
+    root = session.rotate("the-root-to-be-default", root, default=True)
+    session.heading("17 and 18 come before 29, and so does 19.")
+    session.derive("never-made", NEVER_MADE, code=17, target=1, default=True)
+    session.rotate("rotate-never-made", NEVER_MADE, code=17, default=True)
+    session.derive("elsewhere", plain, code=18, target=1, default=True)
+    session.rotate("rotate-elsewhere", plain, code=18, default=True)
+    session.derive("the-default-elsewhere", one, code=18, default=True)
+    closed, root = session.derive("may-not-derive", root, retain=True, may_derive=False, target=2)
+    session.derive("may-not-derive-at-1", closed, locality=2, code=19, target=1, default=True)
+    session.heading("27 and 5 come first: a root that would be the default context is one like any other.")
+    session.root("second-root-as-default", code=5, default=True)
+    session.root("root-as-default-elsewhere", locality=1, code=27, default=True)
+    session.heading("After all these refusals both default contexts are as they were.")
+    session.sign("it-signs-at-1", BY_DEFAULT, locality=1)
+    session.sign("it-signs-at-0", BY_DEFAULT)
+    session.heading("Once the default context has ended its place is free.")
+    session.sign("sign-not-retained", BY_DEFAULT, locality=1, retain=False)
+    session.rotate("a-first-by-rotation", plain, locality=1, default=True)
+    session.sign("the-new-default-signs", BY_DEFAULT, locality=1)
+
+
 def depth(session):
-    """Code 20: sixteen derivations reach depth 16, and a seventeenth is refused; 19 comes before it."""
+    """Code 20: 32 derivations reach depth 32, and one more is refused; 19 comes before it, and it before 29."""
     handle = session.root()
     session.heading("Each derivation takes the handle of the one before.")
-    for step in range(1, 16):
+    for step in range(1, 32):
         handle, _ = session.derive(f"depth-{step}", handle)
-    closed, handle = session.derive("depth-16-may-not-derive", handle, retain=True, may_derive=False)
-    deepest, _ = session.derive("depth-16", handle)
-    session.heading("At depth 16: 20, with retain and without, but 19 where the context may not derive at all.")
-    session.derive("depth-17", deepest, code=20)
-    session.derive("depth-17-with-retain", deepest, code=20, retain=True)
-    session.derive("depth-17-may-not-derive", closed, code=19)
-    session.heading("The deepest context does all else.")
+    closed, handle = session.derive("depth-32-may-not-derive", handle, retain=True, may_derive=False)
+    deepest, _ = session.derive("depth-32", handle)
+    session.heading("At depth 32: 20, with retain and without, but 19 where the context may not derive at all.")
+    session.derive("depth-33", deepest, code=20)
+    session.derive("depth-33-with-retain", deepest, code=20, retain=True)
+    session.derive("depth-33-may-not-derive", closed, code=19)
+    session.heading("The deepest context does all else. As the default one it is used without a handle.")
     deepest, _ = session.sign("sign", deepest)
     deepest, box = session.seal("seal", deepest)
-    session.unseal("unseal", deepest, box)
+    deepest = session.rotate("rotate-to-be-default", deepest, default=True)
+    session.unseal("unseal", BY_DEFAULT, box)
+    session.derive("depth-33-before-29", BY_DEFAULT, code=20, retain=True, default=True)
+    session.derive("depth-33-may-not-derive-before-29", closed, code=19, default=True)
+    session.sign("sign-not-retained", BY_DEFAULT, retain=False)
 
 
 def full_table(session):
-    """Code 21: 256 contexts live. A derivation that keeps its parent is refused then, and all else goes on."""
-    root = session.root()
-    session.heading("255 derivations that keep the root.")
+    """Code 21: 1,024 contexts live. A derivation that keeps its parent is refused then, and all else goes on."""
+    root = session.root(default=True)
+    session.heading("1,023 derivations that keep the root, which every second one doesn't name: it is the default context.")
     short = without(LAYER, 3) | {4: b""}
     child = None
-    for count in range(1, 256):
-        made = session.command(f"context-{count + 1}", 0, DERIVE, short | {1: root, 8: True})
+    for count in range(1, 1024):
+        named = root if count % 2 else BY_DEFAULT
+        made = session.command(f"context-{count + 1}", 0, DERIVE, short | naming(named) | {8: True})
         child, root = made[1], made[2]
-    session.heading("256 contexts live.")
+    session.heading("1,024 contexts live. 21 comes before 29.")
     session.command("one-more", 0, DERIVE, short | {1: root, 8: True}, 21)
+    session.command("one-more-by-default", 0, DERIVE, short | {8: True}, 21)
+    session.command("one-more-before-29", 0, DERIVE, short | {8: True, 12: True}, 21)
+    session.command("a-taken-default-without-retain", 0, DERIVE, short | {1: child, 12: True}, 29)
     renewed = session.rotate("rotate", child)
     replaced = session.command("derive-without-retain", 0, DERIVE, short | {1: renewed})[1]
     session.heading("A place that becomes free is taken.")
@@ -494,26 +621,33 @@ def full_table(session):
     session.command("and-one-more", 0, DERIVE, short | {1: made[2], 8: True}, 21)
     session.destroy("destroy-all", made[2], recursively=True)
     session.rotate("all-are-gone", made[1], code=17)
+    session.rotate("the-default-is-gone", BY_DEFAULT, code=28)
 
 
 def serials(session):
     """Code 25: the last serial is 2^64 - 2, and a command that would need one more is refused."""
     session.start(first=2**64 - 3)
-    root = session.root()
+    root = session.root(default=True)
     session.heading("One serial is left: two handles are too many, one isn't. 25 comes before 22, and 17 and 18 before 25.")
     session.derive("derive-with-retain", root, code=25, retain=True)
-    last = session.rotate("rotate", root)
+    session.derive("derive-by-default-with-retain", BY_DEFAULT, code=25, retain=True)
+    session.derive("a-taken-default-before-25", BY_DEFAULT, code=29, retain=True, default=True)
+    session.sign("no-default-before-25", BY_DEFAULT, locality=1, code=28)
+    last = session.rotate("rotate", root, default=True)
     session.heading("None is left: whatever would make a handle is refused, and the rest is executed.")
     session.rotate("rotate-again", last, code=25)
     session.rotate("rotate-a-spent-handle", root, code=17)
     session.rotate("rotate-elsewhere", last, locality=3, code=18)
     session.derive("derive", last, code=25)
+    session.derive("derive-a-default-in-its-place", last, code=25, default=True)
+    session.rotate("rotate-by-default", BY_DEFAULT, code=25)
     session.sign("sign-with-retain", last, code=25)
     session.seal("seal-with-retain", last, code=25)
     session.unseal("unseal-with-retain-before-22", last, b"", code=25)
     session.unseal("unseal-without-retain", last, b"", code=22, retain=False)
     session.command("profile", 0, GET_PROFILE, {})
-    session.sign("sign-without-retain", last, retain=False)
+    session.heading("The last context is still the default one.")
+    session.sign("sign-without-retain", BY_DEFAULT, retain=False)
 
 
 def longest(session):
@@ -522,7 +656,10 @@ def longest(session):
     label = times(0x4C)
     session.heading("DeriveContext with a descriptor of 1,024 bytes and each argument written.")
     fields = {1: root, 2: times(1), 4: times(4, 1024), 5: times(5), 6: 3, 7: times(7), 8: True, 9: False, 10: 7, 11: False}
-    made = session.command("derive", 0, DERIVE, fields)
+    made = session.command("derive", 0, DERIVE, fields | {12: False})
+    session.heading("And with a configuration.")
+    fields = without(fields, 4) | {1: made[2], 3: times(3), 12: True}
+    made = session.command("derive-with-a-configuration", 0, DERIVE, fields)
     session.heading("Sign, Seal and Unseal with a label of 64 bytes and 2,048 bytes of data, and each argument written.")
     made = session.command("sign", 0, SIGN, {1: made[2], 2: label, 3: True, 4: True, 5: times(5, 2048)})
     fields = {1: made[1], 2: label, 3: True, 4: 255, 5: 15, 6: times(6, 2048)}
@@ -580,6 +717,6 @@ def full_history(session):
 
 
 ALL = (
-    page, boot, deriving, signing, sealing, boxes, contexts, encoding, outside, arguments, order, depth, full_table,
-    serials, longest, connections, full_history,
+    page, page_defaults, boot, deriving, signing, sealing, boxes, contexts, encoding, outside, arguments, order, defaults,
+    default_order, depth, full_table, serials, longest, connections, full_history,
 )

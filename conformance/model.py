@@ -1,4 +1,4 @@
-"""A DPE of the profile dpe-symmetric-1, written from docs/PROTOCOL.md and docs/STATE_MACHINE.md and from nothing else.
+"""A DPE of the profile dpe-symmetric-2, written from docs/PROTOCOL.md and docs/STATE_MACHINE.md and from nothing else.
 
 It shares no code with the server. `conformance/known` tries it on values that were computed elsewhere.
 """
@@ -7,8 +7,8 @@ from dataclasses import dataclass, replace
 import keys
 from cbor import Malformed, open_message, open_payload, payload_of
 
-PROFILE = {1: "dpe-symmetric-1", 2: 4096, 3: 256, 4: 16}
-MOST_CONTEXTS, GREATEST_DEPTH, LAST_SERIAL = 256, 16, 2**64 - 1
+PROFILE = {1: "dpe-symmetric-2", 2: 4096, 3: 1024, 4: 32}
+MOST_CONTEXTS, GREATEST_DEPTH, LAST_SERIAL = 1024, 32, 2**64 - 1
 
 GET_PROFILE, INITIALIZE, DERIVE, SIGN, SEAL, UNSEAL, ROTATE, DESTROY = 1, 7, 8, 10, 11, 12, 14, 15
 OUTSIDE_THE_PROFILE = 2, 3, 4, 5, 6, 9, 13, 16
@@ -16,7 +16,7 @@ OUTSIDE_THE_PROFILE = 2, 3, 4, 5, 6, 9, 13, 16
 OK, INVALID_COMMAND, INVALID_ARGUMENT, SEED_LOCKED = 0, 2, 3, 5
 UNSUPPORTED, NO_SUCH_HANDLE, WRONG_LOCALITY, DERIVE_NOT_ALLOWED, TOO_DEEP = 16, 17, 18, 19, 20
 CONTEXTS_FULL, BOX_MALFORMED, BOX_REFUSED, POLICY_REFUSED = 21, 22, 23, 24
-SERIALS_SPENT, JOURNAL_FULL, ROOT_LOCALITY = 25, 26, 27
+SERIALS_SPENT, JOURNAL_FULL, ROOT_LOCALITY, NO_DEFAULT, DEFAULT_TAKEN = 25, 26, 27, 28, 29
 
 
 class Refused(Exception):
@@ -59,6 +59,7 @@ ARGUMENTS = {
         9: ("may_derive", boolean),
         10: ("target", number(7)),
         11: ("create_certificate", boolean),
+        12: ("child_default", boolean),
     },
     SIGN: {
         1: ("handle", HANDLE),
@@ -88,15 +89,15 @@ ARGUMENTS = {
 REQUIRED = {
     GET_PROFILE: [],
     INITIALIZE: [],
-    DERIVE: ["handle", "code", "authority", "mode"],
-    SIGN: ["handle", "message"],
-    SEAL: ["handle", "plaintext"],
-    UNSEAL: ["handle", "box"],
-    ROTATE: ["handle"],
-    DESTROY: ["handle"],
+    DERIVE: ["code", "authority", "mode"],
+    SIGN: ["message"],
+    SEAL: ["plaintext"],
+    UNSEAL: ["box"],
+    ROTATE: [],
+    DESTROY: [],
 }
 # The keys that ask, where they are true, for something that this profile doesn't have.
-NOT_TRUE = {INITIALIZE: (1, 2), DERIVE: (11,), UNSEAL: (4,), ROTATE: (2,)}
+NOT_TRUE = {INITIALIZE: (1,), DERIVE: (11,), UNSEAL: (4,)}
 IS_SYMMETRIC = 4
 
 
@@ -139,11 +140,13 @@ def read_command(payload):
 
 @dataclass(frozen=True)
 class Context:
-    """A live context. `births` has the serial of each derivation on its way from the root."""
+    """A live context. `births` has the serial of each derivation on its way from the root, and `default` says whether it is
+    the default context of its locality."""
 
     handle: bytes
     locality: int
     may_derive: bool
+    default: bool
     births: tuple
     mode: int
     attest: bytes
@@ -184,16 +187,31 @@ class Model:
         if command == INITIALIZE and self.made:
             raise Refused(SEED_LOCKED)
         used = None
-        if "handle" in arguments:
-            used = next((context for context in self.live if context.handle == arguments["handle"]), None)
-            if used is None:
-                raise Refused(NO_SUCH_HANDLE)
-            if used.locality != locality:
-                raise Refused(WRONG_LOCALITY)
+        if command not in (GET_PROFILE, INITIALIZE):
+            used = self.used(arguments.get("handle"), locality)
         if command == DERIVE:
             self.judge_derivation(arguments, used)
+        if used is not None and self.takes_a_taken_default(command, arguments, used, locality):
+            raise Refused(DEFAULT_TAKEN)
         if self.next + self.handles_made(command, arguments) > LAST_SERIAL:
             raise Refused(SERIALS_SPENT)
+        return used
+
+    def default_of(self, locality):
+        return next((context for context in self.live if context.default and context.locality == locality), None)
+
+    def used(self, handle, locality):
+        """The context that a handle names, or where none is given the caller's default one."""
+        if handle is None:
+            used = self.default_of(locality)
+            if used is None:
+                raise Refused(NO_DEFAULT)
+            return used
+        used = next((context for context in self.live if context.handle == handle), None)
+        if used is None:
+            raise Refused(NO_SUCH_HANDLE)
+        if used.locality != locality:
+            raise Refused(WRONG_LOCALITY)
         return used
 
     def judge_derivation(self, arguments, parent):
@@ -203,6 +221,17 @@ class Model:
             raise Refused(TOO_DEEP)
         if arguments.get("retain", False) and len(self.live) == MOST_CONTEXTS:
             raise Refused(CONTEXTS_FULL)
+
+    def takes_a_taken_default(self, command, arguments, used, locality):
+        """Whether the command would make a second default context of one locality."""
+        if command == DERIVE and arguments.get("child_default", False):
+            holder = self.default_of(arguments.get("target", locality))
+        elif command == ROTATE and arguments.get("to_be_default", False):
+            holder = self.default_of(used.locality)
+        else:
+            return False
+        # What the used context holds it gives up, unless it stays beside a child.
+        return holder is not None and (holder is not used or (command == DERIVE and arguments.get("retain", False)))
 
     @staticmethod
     def handles_made(command, arguments):
@@ -220,31 +249,34 @@ class Model:
         if command == GET_PROFILE:
             return PROFILE
         if command == INITIALIZE:
-            return {1: self.make_root(first)}
+            return {1: self.make_root(first, arguments.get("use_default_context", False))}
         if command == DERIVE:
             return self.derive(arguments, used, locality, first, second)
         if command == DESTROY:
             return self.destroy(used, arguments.get("recursively", False))
         if command == ROTATE:
-            return {1: self.renew(used, first)}
+            return {1: self.renew(replace(used, default=arguments.get("to_be_default", False)), first)}
         made = self.use(command, arguments, used, locality, salt)
         if arguments.get("retain", False):
             return {1: self.renew(used, first), 2: made}
-        self.live.remove(used)
+        self.take_out(used)
         return {2: made}
 
-    def make_root(self, random):
+    def make_root(self, random, default):
         self.made = True
-        root = Context(self.new_handle(random), 0, True, (), 0, self.seed, self.seed)
+        root = Context(self.new_handle(random), 0, True, default, (), 0, self.seed, self.seed)
         self.live.append(root)
         return root.handle
 
     def renew(self, used, random):
         """The context stays, under a new handle."""
+        self.take_out(used)
         renewed = replace(used, handle=self.new_handle(random))
-        self.live.remove(used)
         self.live.append(renewed)
         return renewed.handle
+
+    def take_out(self, used):
+        self.live = [context for context in self.live if context.handle != used.handle]
 
     def derive(self, arguments, parent, locality, first, second):
         if "descriptor" in arguments:
@@ -258,6 +290,7 @@ class Model:
             handle=self.new_handle(first),
             locality=arguments.get("target", locality),
             may_derive=arguments.get("may_derive", True),
+            default=arguments.get("child_default", False),
             births=(*parent.births, birth),
             mode=mode,
             attest=keys.attest_cdi(parent.attest, arguments["code"], configuration, authority, mode, hidden),
@@ -267,7 +300,7 @@ class Model:
         if arguments.get("retain", False):
             made[2] = self.renew(parent, second)
         else:
-            self.live.remove(parent)
+            self.take_out(parent)
         self.live.append(child)
         return made
 

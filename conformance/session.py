@@ -17,6 +17,13 @@ def times(value, count=64):
 # What a layer's derivation brings, but for its handle.
 LAYER = {2: times(0x11), 3: times(0x21), 5: times(0x31), 6: 1}
 
+# In the place of a handle: none is written, and the command uses the caller's default context.
+BY_DEFAULT = None
+
+
+def naming(handle):
+    return {} if handle is BY_DEFAULT else {1: handle}
+
 
 class Session:
     def __init__(self, name):
@@ -81,15 +88,15 @@ class Session:
     def command(self, name, locality, number, fields, code=OK):
         return self.send(name, locality, payload_of(number, fields), code)
 
-    def root(self, name="root", locality=0, code=OK):
-        return self.command(name, locality, INITIALIZE, {}, code).get(1)
+    def root(self, name="root", locality=0, code=OK, default=False):
+        return self.command(name, locality, INITIALIZE, {2: True} if default else {}, code).get(1)
 
     def derive(self, name, handle, locality=0, code=OK, **other):
         """A derivation with the inputs of LAYER; `other` has what differs. Gives the child's and the parent's handles."""
-        fields = LAYER | {1: handle} | other.pop("fields", {})
+        fields = LAYER | naming(handle) | other.pop("fields", {})
         if other.pop("retain", False):
             fields[8] = True
-        for word, key in ("hidden", 7), ("may_derive", 9), ("target", 10):
+        for word, key in ("hidden", 7), ("may_derive", 9), ("target", 10), ("default", 12):
             if word in other:
                 fields[key] = other.pop(word)
         assert not other, other
@@ -97,7 +104,7 @@ class Session:
         return reply.get(1), reply.get(2)
 
     def use(self, name, number, handle, locality, code, retain, label, fields):
-        fields = fields | {1: handle}
+        fields = fields | naming(handle)
         if retain:
             fields[3] = True
         if label:
@@ -116,11 +123,11 @@ class Session:
     def unseal(self, name, handle, box, locality=0, code=OK, retain=True, label=b""):
         return self.use(name, UNSEAL, handle, locality, code, retain, label, {5: box})
 
-    def rotate(self, name, handle, locality=0, code=OK):
-        return self.command(name, locality, ROTATE, {1: handle}, code).get(1)
+    def rotate(self, name, handle, locality=0, code=OK, default=False):
+        return self.command(name, locality, ROTATE, naming(handle) | ({2: True} if default else {}), code).get(1)
 
     def destroy(self, name, handle, locality=0, code=OK, recursively=False):
-        return self.command(name, locality, DESTROY, {1: handle} | ({2: True} if recursively else {}), code)
+        return self.command(name, locality, DESTROY, naming(handle) | ({2: True} if recursively else {}), code)
 
     def context(self, handle):
         """What the model knows of a live context."""

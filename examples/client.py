@@ -1,5 +1,5 @@
 #!/usr/bin/env python3
-"""Makes a new server's root, derives a child, and signs, seals and unseals with it (docs/PROTOCOL.md)."""
+"""Makes a new server's root, derives a child of it by default, and signs, seals and unseals with that (docs/PROTOCOL.md)."""
 import argparse
 import socket
 
@@ -75,9 +75,9 @@ def ask(stream, name, expected=SUCCESS, **arguments):
 
 
 def boot(stream):
-    root = ask(stream, "InitializeContext")["handle"]
+    ask(stream, "InitializeContext", use_default=True)
     inputs = {"code": b"\x11" * 64, "config": b"\x21" * 64, "authority": b"\x31" * 64}
-    child = ask(stream, "DeriveContext", handle=root, mode=NORMAL_MODE, retain=True, **inputs)["child"]
+    child = ask(stream, "DeriveContext", mode=NORMAL_MODE, retain=True, **inputs)["child"]  # without a handle: of the root
     signed = ask(stream, "Sign", handle=child, retain=True, symmetric=True, message=b"a message")
     sealed = ask(stream, "Seal", handle=signed["handle"], retain=True, plaintext=b"a secret")
     opened = ask(stream, "Unseal", handle=sealed["handle"], retain=True, box=sealed["box"])

@@ -15,8 +15,6 @@
 #include <unistd.h>
 
 enum { HANDLE = 16, INPUT = 64, MESSAGE = 32, MOST_DOORS = 16, MOST_UNDERWAY = 16, TRIES = 500 };
-/* The root lives beside the contexts of the doors. */
-enum { MOST_CONTEXTS = 255 };
 
 /* The bytes before the first handle of each frame, its length with them. */
 static const uint8_t INITIALIZE[] = {0, 0, 0, 6, 0x82, 0, 0x43, 0x82, 7, 0xa0};
@@ -192,7 +190,7 @@ int main(int argc, char **argv) {
   count = strtoull(argv[1], NULL, 10);
   underway = (unsigned)strtoul(argv[2], NULL, 10);
   if (count == 0) fail("the count is a number from 1 on");
-  if (underway < 1 || underway > MOST_UNDERWAY || underway * (unsigned)doors > MOST_CONTEXTS) fail("too many contexts, or none");
+  if (underway < 1 || underway > MOST_UNDERWAY) fail("1 to 16 commands are under way at a door");
   for (int i = 0; i < doors; i++) connect_to(&clients[i], (uint8_t)i, argv[3 + i]);
   uint8_t root[HANDLE];
   errno = 0;

@@ -10,7 +10,7 @@
 
 enum { ACCEPTED = 0, NOT_A_COMMAND = 2, BAD_ARGUMENTS = 3, UNSUPPORTED = 16 };
 enum { INITIALIZE_CONTEXT = 7, DERIVE_CONTEXT = 8, SIGN = 10 };
-enum { MOST_KEYS = 11, MOST_PAYLOAD = 4096 };
+enum { MOST_KEYS = 12, MOST_PAYLOAD = 4096 };
 
 /* The major types of items. */
 enum { UNSIGNED = 0, STRING = 2, TEXT = 3, ARRAY = 4, MAP = 5, SIMPLE = 7 };
@@ -113,13 +113,13 @@ struct argument {
 static const struct argument INITIALIZE_ARGUMENTS[] = {{TRUTH, 0, 1, false}, {TRUTH, 0, 1, false}};
 
 static const struct argument DERIVE_ARGUMENTS[] = {
-  {BYTES, 16, 16, true}, {BYTES, 64, 64, true},   {BYTES, 64, 64, false}, {BYTES, 0, 1024, false},
-  {BYTES, 64, 64, true}, {NUMBER, 0, 3, true},    {BYTES, 64, 64, false}, {TRUTH, 0, 1, false},
-  {TRUTH, 0, 1, false},  {NUMBER, 0, 7, false},   {TRUTH, 0, 1, false},
+  {BYTES, 16, 16, false}, {BYTES, 64, 64, true},   {BYTES, 64, 64, false}, {BYTES, 0, 1024, false},
+  {BYTES, 64, 64, true},  {NUMBER, 0, 3, true},    {BYTES, 64, 64, false}, {TRUTH, 0, 1, false},
+  {TRUTH, 0, 1, false},   {NUMBER, 0, 7, false},   {TRUTH, 0, 1, false},   {TRUTH, 0, 1, false},
 };
 
 static const struct argument SIGN_ARGUMENTS[] = {
-  {BYTES, 16, 16, true}, {BYTES, 0, 64, false}, {TRUTH, 0, 1, false}, {TRUTH, 0, 1, false}, {BYTES, 0, 2048, true},
+  {BYTES, 16, 16, false}, {BYTES, 0, 64, false}, {TRUTH, 0, 1, false}, {TRUTH, 0, 1, false}, {BYTES, 0, 2048, true},
 };
 
 static bool fits(const struct command *command, const struct argument *arguments, unsigned count) {
@@ -156,7 +156,7 @@ static unsigned read_command(const uint8_t *payload, size_t size, struct command
   bool outside, right;
   switch (command->number) {
   case INITIALIZE_CONTEXT:
-    outside = is_true(command, 1) || is_true(command, 2);
+    outside = is_true(command, 1);
     right = fits(command, INITIALIZE_ARGUMENTS, COUNT(INITIALIZE_ARGUMENTS));
     break;
   case DERIVE_CONTEXT:

@@ -16,11 +16,12 @@
 #include "keyed.h"
 #include "messages.h"
 
-enum { HANDLE = 16, RANDOM = 32, MOST_ROWS = 256, MOST_DEPTH = 16, MOST_DOORS = 16, MOST_ENTRIES = 65536, GATHERED = 32768 };
+enum { HANDLE = 16, RANDOM = 32, LOCALITIES = 8, MOST_ROWS = 1024, MOST_DEPTH = 32 };
+enum { MOST_DOORS = 16, MOST_ENTRIES = 65536, GATHERED = 32768 };
 /* The bytes that one read and one draw ask for. */
 enum { AHEAD = 8192, DRAWN = 4096 };
 enum { SEED_LOCKED = 5, NO_SUCH_HANDLE = 17, WRONG_LOCALITY, DERIVE_NOT_ALLOWED, TOO_DEEP, CONTEXTS_FULL };
-enum { SERIALS_SPENT = 25, JOURNAL_FULL, ROOT_LOCALITY };
+enum { SERIALS_SPENT = 25, JOURNAL_FULL, ROOT_LOCALITY, NO_DEFAULT, DEFAULT_TAKEN };
 /* The loads of a wait before it gives the processor away before each further one. */
 enum { LOADS = 64 };
 
@@ -29,7 +30,7 @@ struct row {
   uint8_t handle[HANDLE];
   uint64_t serial;
   uint8_t locality, depth;
-  bool may_derive;
+  bool may_derive, is_default;
   uint8_t attest[CDI];
 };
 
@@ -48,15 +49,18 @@ struct entry {
   uint8_t command[MOST_PAYLOAD], reply[MOST_PAYLOAD];
 };
 
-/* The shared book: what commands work on, and the history. Slots stand in `order` with the live ones first, by serial. */
+/* The shared book: what commands work on, and the history. Slots stand in `order` with the live ones first, by serial. Of the
+   default context of each locality the serial is kept. */
 static struct {
   uint8_t seed[CDI];
   struct keyed unsalted;
   uint64_t first, next;
   bool made;
   struct row slots[MOST_ROWS];
-  uint8_t order[MOST_ROWS];
+  uint16_t order[MOST_ROWS];
   unsigned live;
+  bool has_default[LOCALITIES];
+  uint64_t defaults[LOCALITIES];
   struct entry *entries;
   uint32_t length;
 } book;
@@ -89,23 +93,31 @@ static void fail(int status, const char *what) {
 
 /* The table of contexts. */
 
-/* The place of the row with this handle, or -1. */
-static int find(const uint8_t *handle) {
-  if (book.live == 0) return -1;
-  uint64_t serial = load_big(handle);
+/* The place of the row with this serial, or of some other one where none has it. */
+static unsigned place_of(uint64_t serial) {
   unsigned at = 0, left = book.live;
   while (left > 1) {
     unsigned half = left / 2;
     if (book.slots[book.order[at + half]].serial <= serial) at += half;
     left -= half;
   }
+  return at;
+}
+
+/* The place of the row with this handle, or -1. */
+static int find(const uint8_t *handle) {
+  if (book.live == 0) return -1;
+  unsigned at = place_of(load_big(handle));
   return memcmp(book.slots[book.order[at]].handle, handle, HANDLE) == 0 ? (int)at : -1;
 }
 
+/* The place of the default context of a locality, or -1. */
+static int default_at(uint8_t locality) { return book.has_default[locality] ? (int)place_of(book.defaults[locality]) : -1; }
+
 /* Makes the row at a place the last one. */
 static struct row *put_last(unsigned at) {
-  uint8_t slot = book.order[at];
-  memmove(book.order + at, book.order + at + 1, book.live - 1 - at);
+  uint16_t slot = book.order[at];
+  memmove(book.order + at, book.order + at + 1, (book.live - 1 - at) * sizeof *book.order);
   book.order[book.live - 1] = slot;
   return &book.slots[slot];
 }
@@ -114,6 +126,7 @@ static struct row *put_last(unsigned at) {
 static struct row spend(unsigned at) {
   struct row row = *put_last(at);
   book.live--;
+  if (row.is_default) book.has_default[row.locality] = false;
   return row;
 }
 
@@ -122,6 +135,10 @@ static const uint8_t *name_row(struct row *row, const uint8_t *random) {
   row->serial = book.next++;
   store_big(row->handle, row->serial);
   memcpy(row->handle + 8, random, 8);
+  if (row->is_default) {
+    book.has_default[row->locality] = true;
+    book.defaults[row->locality] = row->serial;
+  }
   return row->handle;
 }
 
@@ -132,11 +149,12 @@ static const uint8_t *issue(const struct row *row, const uint8_t *random) {
   return name_row(slot, random);
 }
 
-/* The place of the row that a command may use, or its refusal. */
-static int usable(const uint8_t *handle, uint8_t locality, unsigned *code) {
-  int at = find(handle);
+/* The place of the row that a command may use, or its refusal. Without a handle it is the default one. */
+static int usable(const struct value *handle, uint8_t locality, unsigned *code) {
+  bool named = handle->kind != ABSENT;
+  int at = named ? find(handle->bytes) : default_at(locality);
   if (at < 0)
-    *code = NO_SUCH_HANDLE;
+    *code = named ? NO_SUCH_HANDLE : NO_DEFAULT;
   else if (book.slots[book.order[at]].locality != locality)
     *code = WRONG_LOCALITY;
   else
@@ -146,11 +164,11 @@ static int usable(const uint8_t *handle, uint8_t locality, unsigned *code) {
 
 /* The commands. */
 
-static size_t initialize(const struct call *call, uint8_t *reply) {
+static size_t initialize(const struct call *call, const struct command *command, uint8_t *reply) {
   if (call->locality != 0) return refuse(reply, ROOT_LOCALITY);
   if (book.made) return refuse(reply, SEED_LOCKED);
   if (book.next == UINT64_MAX) return refuse(reply, SERIALS_SPENT);
-  struct row root = {.may_derive = true};
+  struct row root = {.may_derive = true, .is_default = is_true(command, 2)};
   memcpy(root.attest, book.seed, CDI);
   book.made = true;
   struct field made = {1, issue(&root, call->random), HANDLE};
@@ -172,23 +190,31 @@ static void fold(const struct row *parent, const struct value *values, struct ro
   attest_next(parent->attest, &layer, child->attest);
 }
 
-static unsigned derive_refusal(const struct row *parent, bool retain) {
+/* Whether a child's locality has a default context that doesn't make way for it. */
+static bool is_taken(const struct row *parent, bool retain, uint8_t target) {
+  return book.has_default[target] && (retain || book.defaults[target] != parent->serial);
+}
+
+static unsigned derive_refusal(const struct row *parent, bool retain, const struct row *child) {
   if (!parent->may_derive) return DERIVE_NOT_ALLOWED;
   if (parent->depth == MOST_DEPTH) return TOO_DEEP;
   if (retain && book.live == MOST_ROWS) return CONTEXTS_FULL;
+  if (child->is_default && is_taken(parent, retain, child->locality)) return DEFAULT_TAKEN;
   return UINT64_MAX - book.next < 1u + retain ? SERIALS_SPENT : ACCEPTED;
 }
 
 static size_t derive(const struct call *call, const struct command *command, uint8_t *reply) {
   const struct value *values = command->values;
   bool retain = is_true(command, 8);
-  unsigned code;
-  int at = usable(values[1].bytes, call->locality, &code);
-  if (code == ACCEPTED) code = derive_refusal(&book.slots[book.order[at]], retain);
-  if (code != ACCEPTED) return refuse(reply, code);
-  struct row parent = spend((unsigned)at), child = {.depth = parent.depth + 1};
+  struct row child = {.is_default = is_true(command, 12)};
   child.locality = values[10].kind == ABSENT ? call->locality : (uint8_t)values[10].number;
   child.may_derive = values[9].kind == ABSENT || values[9].number == 1;
+  unsigned code;
+  int at = usable(&values[1], call->locality, &code);
+  if (code == ACCEPTED) code = derive_refusal(&book.slots[book.order[at]], retain, &child);
+  if (code != ACCEPTED) return refuse(reply, code);
+  struct row parent = spend((unsigned)at);
+  child.depth = parent.depth + 1;
   fold(&parent, values, &child);
   struct field made[2] = {{1, issue(&child, call->random), HANDLE}};
   if (retain) made[1] = (struct field){2, issue(&parent, call->random + 8), HANDLE};
@@ -199,7 +225,7 @@ static size_t sign_command(const struct call *call, const struct command *comman
   const struct value *values = command->values, *label = &values[2], *message = &values[5];
   bool retain = is_true(command, 3);
   unsigned code;
-  int at = usable(values[1].bytes, call->locality, &code);
+  int at = usable(&values[1], call->locality, &code);
   if (code == ACCEPTED && UINT64_MAX - book.next < retain) code = SERIALS_SPENT;
   if (code != ACCEPTED) return refuse(reply, code);
   uint8_t signature[DIGEST];
@@ -219,7 +245,7 @@ static size_t execute(const struct call *call, uint8_t *reply) {
   unsigned code = read_command(call->payload, call->size, &command);
   if (code != ACCEPTED) return refuse(reply, code);
   switch (command.number) {
-  case INITIALIZE_CONTEXT: return initialize(call, reply);
+  case INITIALIZE_CONTEXT: return initialize(call, &command, reply);
   case DERIVE_CONTEXT: return derive(call, &command, reply);
   default: return sign_command(call, &command, reply);
   }
@@ -374,7 +400,7 @@ static void open_book(uint64_t entries, uint64_t first) {
   static const uint8_t zeros[DIGEST];
   keyed_from(&book.unsalted, zeros);
   book.first = book.next = first;
-  for (int slot = 0; slot < MOST_ROWS; slot++) book.order[slot] = (uint8_t)slot;
+  for (int slot = 0; slot < MOST_ROWS; slot++) book.order[slot] = (uint16_t)slot;
   capacity = entries;
   book.entries = malloc(entries * sizeof *book.entries);
   if (!book.entries) fail(3, "memory");

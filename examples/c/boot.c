@@ -1,4 +1,5 @@
-/* A boot of six layers over four localities with dpe.h, on the sockets of a new server; then a reply that is lost.
+/* A boot of six layers over four localities with dpe.h, on the sockets of a new server; then replies that are lost. The
+ * layers at the localities 0 and 2 are default contexts, and used without their handles.
  *
  *     boot ROM TEE LOADER KERNEL
  *
@@ -152,11 +153,26 @@ static void seal_and_unseal(struct dpe *dpe, struct dpe_handle *app)
 static void lose_a_reply(struct link *kernel, struct dpe_handle *app)
 {
     kernel->deaf = true;
-    expect(DPE_LOST, "rotate, and the reply is lost", dpe_rotate(&kernel->dpe, app));
-    expect(DPE_NOT_SENT, "rotate on a connection of no more use", dpe_rotate(&kernel->dpe, app));
+    expect(DPE_LOST, "rotate, and the reply is lost", dpe_rotate(&kernel->dpe, app, false));
+    expect(DPE_NOT_SENT, "rotate on a connection of no more use", dpe_rotate(&kernel->dpe, app, false));
     close_link(kernel);
     open_link(kernel);
     expect(DPE_NO_SUCH_HANDLE, "was it executed?", dpe_find_out(&kernel->dpe, app));
+}
+
+/* The reply to a signature by the default context is lost. Whether or not it was executed, the context is still there. */
+static void lose_no_context(struct link *loader)
+{
+    struct dpe_handle by_default = {.state = DPE_DEFAULT};
+    uint8_t signature[DPE_SIGNATURE_BYTES];
+    loader->deaf = true;
+    expect(DPE_LOST, "sign by default, and the reply is lost",
+           dpe_sign(&loader->dpe, &by_default, true, text(""), text("hi"), signature));
+    close_link(loader);
+    open_link(loader);
+    expect(DPE_OK, "is there a default context?", dpe_find_out(&loader->dpe, &by_default));
+    expect(DPE_OK, "sign by default",
+           dpe_sign(&loader->dpe, &by_default, true, text(""), text("hi"), signature));
 }
 
 static void boot(struct link links[LINKS])
@@ -165,25 +181,29 @@ static void boot(struct link links[LINKS])
     struct inputs inputs;
     struct dpe_layer next;
     struct dpe_handle root = {0}, first = {0}, tee = {0}, loader = {0}, kernel = {0}, init = {0}, app = {0},
-                      none = {0};
+                      none = {0}, by_default = {.state = DPE_DEFAULT};
     static const uint8_t descriptor[] = {0xa0};
 
     for (unsigned i = 0; i < LINKS; i++)
         at[i] = &links[i].dpe;
     expect(DPE_OK, "profile", dpe_check_profile(at[0]));
-    expect(DPE_ROOT_LOCALITY, "root at locality 1", dpe_initialize(at[1], &root));
-    expect(DPE_OK, "root", dpe_initialize(at[0], &root));
+    expect(DPE_ROOT_LOCALITY, "root at locality 1", dpe_initialize(at[1], true, &root));
+    expect(DPE_OK, "root, as the default context", dpe_initialize(at[0], true, &root));
     next = layer(&inputs, 1);
-    expect(DPE_OK, "first layer, from the root", dpe_derive(at[0], &root, false, &next, &first));
+    next.is_default = true;
+    expect(DPE_OK, "first layer, in the root's place", dpe_derive(at[0], &by_default, false, &next, &first));
+    expect(DPE_DEFAULT_TAKEN, "a layer beside it", dpe_derive(at[0], &by_default, true, &next, &none));
     next = layer_at(&inputs, 2, 1);
     expect(DPE_OK, "tee at 1, from the first layer", dpe_derive(at[0], &first, true, &next, &tee));
+    expect(DPE_NO_DEFAULT, "is there a default context at 1?", dpe_find_out(at[1], &by_default));
     next = layer_at(&inputs, 3, 2);
-    expect(DPE_OK, "loader at 2, from the first layer", dpe_derive(at[0], &first, false, &next, &loader));
+    next.is_default = true;
+    expect(DPE_OK, "loader at 2, from the first layer", dpe_derive(at[0], &by_default, false, &next, &loader));
     sign(at[1], &tee);
     next = layer_at(&inputs, 4, 3);
     next.configuration = NULL;
     next.descriptor = (struct dpe_bytes){descriptor, sizeof descriptor};
-    expect(DPE_OK, "kernel at 3, from the loader", dpe_derive(at[2], &loader, true, &next, &kernel));
+    expect(DPE_OK, "kernel at 3, from the loader", dpe_derive(at[2], &by_default, true, &next, &kernel));
     next = layer(&inputs, 5);
     expect(DPE_OK, "init, from the kernel", dpe_derive(at[3], &kernel, false, &next, &init));
     next = layer(&inputs, 6);
@@ -192,11 +212,13 @@ static void boot(struct link links[LINKS])
     seal_and_unseal(at[3], &app);
     next = layer(&inputs, 7);
     expect(DPE_DERIVE_NOT_ALLOWED, "a layer from the application", dpe_derive(at[3], &app, true, &next, &none));
-    expect(DPE_WRONG_LOCALITY, "rotate at another locality", dpe_rotate(at[2], &app));
+    expect(DPE_WRONG_LOCALITY, "rotate at another locality", dpe_rotate(at[2], &app, false));
     lose_a_reply(&links[3], &app);
+    lose_no_context(&links[2]);
     expect(DPE_OK, "destroy tee", dpe_destroy(at[1], &tee, false));
     expect(DPE_OK, "is init live?", dpe_find_out(at[3], &init));
-    expect(DPE_OK, "destroy the loader and all below", dpe_destroy(at[2], &loader, true));
+    expect(DPE_NO_SUCH_HANDLE, "is the loader's handle live?", dpe_find_out(at[2], &loader));
+    expect(DPE_OK, "destroy the loader and all below", dpe_destroy(at[2], &by_default, true));
     expect(DPE_NO_SUCH_HANDLE, "is init live?", dpe_find_out(at[3], &init));
 }
 

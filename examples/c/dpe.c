@@ -169,7 +169,7 @@ static bool is_whole(const struct reader *reader)
 
 static bool is_refusal(size_t code)
 {
-    return code == 2 || code == 3 || code == 5 || (16 <= code && code <= 27);
+    return code == 2 || code == 3 || code == 5 || (16 <= code && code <= 29);
 }
 
 /* One command and its reply. */
@@ -234,7 +234,7 @@ static enum dpe_status exchange(struct dpe *dpe, const struct writer *message, s
     return status;
 }
 
-/* Ends each call: `handle` is the one that the command named, and `renewed` its new one or NULL. Where the reply wasn't read
+/* Ends each call: `handle` is the one that the command used, and `renewed` its new one or NULL. Where the reply wasn't read
  * to its end as it should be, the connection is of no more use. */
 static enum dpe_status finish(struct dpe *dpe, enum dpe_status status, const struct reader *fields,
                               struct dpe_handle *handle, const uint8_t *renewed)
@@ -243,11 +243,13 @@ static enum dpe_status finish(struct dpe *dpe, enum dpe_status status, const str
         status = DPE_NO_REPLY;
         dpe->usable = false;
     }
-    if (handle != NULL && status == DPE_OK) {
+    if (handle == NULL || handle->state == DPE_DEFAULT)
+        return status;
+    if (status == DPE_OK) {
         handle->state = renewed != NULL ? DPE_LIVE : DPE_NONE;
         if (renewed != NULL)
             copy(handle->bytes, renewed, DPE_HANDLE_BYTES);
-    } else if (handle != NULL && (status == DPE_LOST || status == DPE_NO_REPLY)) {
+    } else if (status == DPE_LOST || status == DPE_NO_REPLY) {
         handle->state = DPE_UNSURE;
     }
     return status;
@@ -271,7 +273,19 @@ static enum dpe_status end(struct dpe *dpe, enum dpe_status status)
 
 static bool may_use(const struct dpe *dpe, const struct dpe_handle *handle)
 {
-    return dpe->usable && handle->state == DPE_LIVE;
+    return dpe->usable && (handle->state == DPE_LIVE || handle->state == DPE_DEFAULT);
+}
+
+/* How many pairs name the handle: none where the default context is meant. */
+static unsigned names(const struct dpe_handle *handle)
+{
+    return handle->state == DPE_DEFAULT ? 0 : 1;
+}
+
+static void put_handle(struct writer *writer, const struct dpe_handle *handle)
+{
+    if (names(handle) > 0)
+        put_bytes(writer, 1, handle->bytes, DPE_HANDLE_BYTES);
 }
 
 void dpe_open(struct dpe *dpe, struct dpe_transport transport)
@@ -283,7 +297,7 @@ void dpe_open(struct dpe *dpe, struct dpe_transport transport)
 
 enum dpe_status dpe_check_profile(struct dpe *dpe)
 {
-    static const uint8_t name[] = {'d', 'p', 'e', '-', 's', 'y', 'm', 'm', 'e', 't', 'r', 'i', 'c', '-', '1'};
+    static const uint8_t name[] = {'d', 'p', 'e', '-', 's', 'y', 'm', 'm', 'e', 't', 'r', 'i', 'c', '-', '2'};
     if (!dpe->usable)
         return DPE_NOT_SENT;
     struct writer writer = begin(dpe, GET_PROFILE, 0);
@@ -297,17 +311,19 @@ enum dpe_status dpe_check_profile(struct dpe *dpe)
         for (size_t i = 0; found != NULL && i < sizeof name; i++)
             require(&fields, found[i] == name[i]);
         take_number(&fields, 2, 4096);
-        take_number(&fields, 3, 256);
-        take_number(&fields, 4, 16);
+        take_number(&fields, 3, 1024);
+        take_number(&fields, 4, 32);
     }
     return end(dpe, finish(dpe, status, &fields, NULL, NULL));
 }
 
-enum dpe_status dpe_initialize(struct dpe *dpe, struct dpe_handle *root)
+enum dpe_status dpe_initialize(struct dpe *dpe, bool is_default, struct dpe_handle *root)
 {
     if (!dpe->usable)
         return DPE_NOT_SENT;
-    struct writer writer = begin(dpe, INITIALIZE_CONTEXT, 0);
+    struct writer writer = begin(dpe, INITIALIZE_CONTEXT, is_default ? 1 : 0);
+    if (is_default)
+        put_boolean(&writer, 2, true);
     struct reader fields;
     const uint8_t *made = NULL;
     enum dpe_status status = exchange(dpe, &writer, &fields);
@@ -344,6 +360,8 @@ static void put_layer(struct writer *writer, const struct dpe_layer *layer, bool
         put_boolean(writer, 9, false);
     if (layer->moves)
         put_number(writer, 10, layer->target);
+    if (layer->is_default)
+        put_boolean(writer, 12, true);
 }
 
 enum dpe_status dpe_derive(struct dpe *dpe, struct dpe_handle *parent, bool retain, const struct dpe_layer *layer,
@@ -351,9 +369,9 @@ enum dpe_status dpe_derive(struct dpe *dpe, struct dpe_handle *parent, bool reta
 {
     if (!may_use(dpe, parent) || parent == child || !is_right_layer(layer))
         return DPE_NOT_SENT;
-    unsigned pairs = 5u + (layer->hidden != NULL) + retain + layer->derives_nothing + layer->moves;
-    struct writer writer = begin(dpe, DERIVE_CONTEXT, pairs);
-    put_bytes(&writer, 1, parent->bytes, DPE_HANDLE_BYTES);
+    unsigned pairs = 4u + (layer->hidden != NULL) + retain + layer->derives_nothing + layer->moves + layer->is_default;
+    struct writer writer = begin(dpe, DERIVE_CONTEXT, names(parent) + pairs);
+    put_handle(&writer, parent);
     put_layer(&writer, layer, retain);
     struct reader fields;
     const uint8_t *made = NULL, *renewed = NULL;
@@ -373,8 +391,8 @@ enum dpe_status dpe_derive(struct dpe *dpe, struct dpe_handle *parent, bool reta
 static struct writer begin_use(struct dpe *dpe, enum command command, unsigned pairs, const struct dpe_handle *handle,
                                bool retain, struct dpe_bytes label)
 {
-    struct writer writer = begin(dpe, command, 1u + (label.length > 0) + retain + pairs);
-    put_bytes(&writer, 1, handle->bytes, DPE_HANDLE_BYTES);
+    struct writer writer = begin(dpe, command, names(handle) + (label.length > 0) + retain + pairs);
+    put_handle(&writer, handle);
     if (label.length > 0)
         put_bytes(&writer, 2, label.bytes, label.length);
     if (retain)
@@ -445,12 +463,14 @@ enum dpe_status dpe_unseal(struct dpe *dpe, struct dpe_handle *handle, bool reta
     return end_use(dpe, &writer, handle, retain, opened, plaintext, length);
 }
 
-enum dpe_status dpe_rotate(struct dpe *dpe, struct dpe_handle *handle)
+enum dpe_status dpe_rotate(struct dpe *dpe, struct dpe_handle *handle, bool to_be_default)
 {
     if (!may_use(dpe, handle))
         return DPE_NOT_SENT;
-    struct writer writer = begin(dpe, ROTATE_CONTEXT_HANDLE, 1);
-    put_bytes(&writer, 1, handle->bytes, DPE_HANDLE_BYTES);
+    struct writer writer = begin(dpe, ROTATE_CONTEXT_HANDLE, names(handle) + to_be_default);
+    put_handle(&writer, handle);
+    if (to_be_default)
+        put_boolean(&writer, 2, true);
     struct reader fields;
     const uint8_t *renewed = NULL;
     enum dpe_status status = exchange(dpe, &writer, &fields);
@@ -458,15 +478,18 @@ enum dpe_status dpe_rotate(struct dpe *dpe, struct dpe_handle *handle)
         take_argument(&fields, MAP, 1);
         renewed = take_handle(&fields, 1);
     }
-    return end(dpe, finish(dpe, status, &fields, handle, renewed));
+    status = finish(dpe, status, &fields, handle, renewed);
+    if (handle->state == DPE_DEFAULT && !to_be_default)
+        keep(handle, status, renewed);
+    return end(dpe, status);
 }
 
 enum dpe_status dpe_destroy(struct dpe *dpe, struct dpe_handle *handle, bool recursively)
 {
     if (!may_use(dpe, handle))
         return DPE_NOT_SENT;
-    struct writer writer = begin(dpe, DESTROY_CONTEXT, recursively ? 2 : 1);
-    put_bytes(&writer, 1, handle->bytes, DPE_HANDLE_BYTES);
+    struct writer writer = begin(dpe, DESTROY_CONTEXT, names(handle) + recursively);
+    put_handle(&writer, handle);
     if (recursively)
         put_boolean(&writer, 2, true);
     struct reader fields;
@@ -490,7 +513,7 @@ enum dpe_status dpe_find_out(struct dpe *dpe, struct dpe_handle *handle)
         status = DPE_NO_REPLY;
     }
     if (status == DPE_BOX_MALFORMED) {
-        handle->state = DPE_LIVE;
+        handle->state = handle->state == DPE_DEFAULT ? DPE_DEFAULT : DPE_LIVE;
         status = DPE_OK;
     } else if (status == DPE_NO_SUCH_HANDLE) {
         handle->state = DPE_NONE;
@@ -517,6 +540,8 @@ const char *dpe_status_name(enum dpe_status status)
     case DPE_SERIALS_SPENT: return "serials spent";
     case DPE_JOURNAL_FULL: return "journal full";
     case DPE_ROOT_LOCALITY: return "root locality";
+    case DPE_NO_DEFAULT: return "no default";
+    case DPE_DEFAULT_TAKEN: return "default taken";
     case DPE_NOT_SENT: return "not sent";
     case DPE_LOST: return "lost";
     case DPE_NO_REPLY: return "no reply";

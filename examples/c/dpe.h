@@ -1,4 +1,4 @@
-/* A client of a DICE Protection Environment of the profile dpe-symmetric-1 (docs/PROTOCOL.md), for firmware: C11, no
+/* A client of a DICE Protection Environment of the profile dpe-symmetric-2 (docs/PROTOCOL.md), for firmware: C11, no
  * allocation, no global state, and no header but three that a freestanding compiler has.
  *
  * One struct dpe is one connection, and so one locality. Each call sends a command and waits for its reply. A reply is taken
@@ -44,6 +44,8 @@ enum dpe_status {
     DPE_SERIALS_SPENT = 25,
     DPE_JOURNAL_FULL = 26, /* the server has ended the connection */
     DPE_ROOT_LOCALITY = 27,
+    DPE_NO_DEFAULT = 28,
+    DPE_DEFAULT_TAKEN = 29,
     /* Of this library. */
     DPE_NOT_SENT = -1,  /* an argument is out of its range, or the connection was of no more use; nothing was sent */
     DPE_LOST = -2,      /* sending or receiving failed: the command may have been executed (dpe_find_out) */
@@ -70,11 +72,14 @@ struct dpe_bytes {
     size_t length;
 };
 
-/* A handle, which every accepted command spends: the calls put the new one in its place. A handle of zeros is none. */
+/* A handle, which every accepted command spends: the calls put the new one in its place. A handle of zeros is none.
+ * One of the state DPE_DEFAULT names nothing: it stands for the default context of the connection's locality, whichever that
+ * is, and stays so, but that dpe_rotate may give the context a handle in its place. */
 enum dpe_handle_state {
     DPE_NONE = 0, /* spent, or never given */
     DPE_LIVE,
-    DPE_UNSURE /* a reply was lost */
+    DPE_UNSURE, /* a reply was lost */
+    DPE_DEFAULT
 };
 struct dpe_handle {
     uint8_t bytes[DPE_HANDLE_BYTES];
@@ -92,6 +97,7 @@ struct dpe_layer {
     bool derives_nothing;  /* the new context may not be derived from */
     bool moves;            /* the new context is at the locality `target`, and not at the caller's */
     uint8_t target;
+    bool is_default; /* the new context is the default one of its locality */
 };
 
 /* Who may open a box: bit i, counted from the lowest, admits locality i, or mode i. Give it the opener's own bits: a box
@@ -104,12 +110,12 @@ struct dpe_policy {
 /* A new connection. The transport's context is the caller's, which opens and closes what is behind it. */
 void dpe_open(struct dpe *dpe, struct dpe_transport transport);
 
-/* DPE_OK where the server has the profile dpe-symmetric-1, and DPE_NO_REPLY where it has another. */
+/* DPE_OK where the server has the profile dpe-symmetric-2, and DPE_NO_REPLY where it has another. */
 enum dpe_status dpe_check_profile(struct dpe *dpe);
 
-/* The root, once in the life of a server, at locality 0. Here and below a new context's handle is written where the status is
- * DPE_OK, and else stays as it was. */
-enum dpe_status dpe_initialize(struct dpe *dpe, struct dpe_handle *root);
+/* The root, once in the life of a server, at locality 0, whose default context it may be. Here and below a new context's
+ * handle is written where the status is DPE_OK, and else stays as it was. */
+enum dpe_status dpe_initialize(struct dpe *dpe, bool is_default, struct dpe_handle *root);
 
 /* A child of `parent`, which stays under a new handle where it is retained, and else is gone. `child` is another object than
  * `parent`. */
@@ -125,14 +131,17 @@ enum dpe_status dpe_seal(struct dpe *dpe, struct dpe_handle *handle, bool retain
 enum dpe_status dpe_unseal(struct dpe *dpe, struct dpe_handle *handle, bool retain, struct dpe_bytes label,
                            struct dpe_bytes box, uint8_t plaintext[DPE_MOST_DATA], size_t *length);
 
-enum dpe_status dpe_rotate(struct dpe *dpe, struct dpe_handle *handle);
+/* The context gets a new handle, and is the default one of its locality from then on, or is none from then on. A handle of the
+ * state DPE_DEFAULT is live afterwards where the context is no default one. */
+enum dpe_status dpe_rotate(struct dpe *dpe, struct dpe_handle *handle, bool to_be_default);
 
 /* Ends the context, and recursively all that was derived from it. */
 enum dpe_status dpe_destroy(struct dpe *dpe, struct dpe_handle *handle, bool recursively);
 
 /* What became of a command whose reply was lost, asked on a new connection to the same socket: DPE_OK where it wasn't
- * executed, and the handle is live; DPE_NO_SUCH_HANDLE where it was, and the handle is spent. It changes nothing at the
- * server, but takes a place of its history. */
+ * executed, and the handle is live; DPE_NO_SUCH_HANDLE where it was, and the handle is spent. Of a handle of the state
+ * DPE_DEFAULT it says whether there is a default context, DPE_OK or DPE_NO_DEFAULT. It changes nothing at the server, but
+ * takes a place of its history. */
 enum dpe_status dpe_find_out(struct dpe *dpe, struct dpe_handle *handle);
 
 /* A word or two for a log. */

@@ -64,7 +64,7 @@ static enum dpe_status run_call(struct dpe *dpe, enum call call, struct dpe_hand
     size_t length = 0;
     switch (call) {
     case PROFILE: return dpe_check_profile(dpe);
-    case INITIALIZE: return dpe_initialize(dpe, &other);
+    case INITIALIZE: return dpe_initialize(dpe, false, &other);
     case DERIVE:
     case DERIVE_RETAIN: return dpe_derive(dpe, handle, call == DERIVE_RETAIN, &layer, &other);
     case SIGN:
@@ -73,7 +73,7 @@ static enum dpe_status run_call(struct dpe *dpe, enum call call, struct dpe_hand
     case SEAL_RETAIN: return dpe_seal(dpe, handle, call == SEAL_RETAIN, NO_LABEL, EVERYBODY, data, made, &length);
     case UNSEAL:
     case UNSEAL_RETAIN: return dpe_unseal(dpe, handle, call == UNSEAL_RETAIN, NO_LABEL, box, made, &length);
-    case ROTATE: return dpe_rotate(dpe, handle);
+    case ROTATE: return dpe_rotate(dpe, handle, false);
     case DESTROY: return dpe_destroy(dpe, handle, true);
     }
     return DPE_NOT_SENT;
@@ -119,7 +119,7 @@ struct reply {
 };
 
 static const struct reply REPLIES[] = {
-    {PROFILE, {"8200581e8200a4016f6470652d73796d6d65747269632d3102191000031901000410"}, {0}},
+    {PROFILE, {"8200581f8200a4016f6470652d73796d6d65747269632d320219100003190400041820"}, {0}},
     {INITIALIZE, {"8200558200a10150"}, {16}},
     {DERIVE, {"8200558200a10150"}, {16}},
     {DERIVE_RETAIN, {"820058278200a20150", "0250"}, {16, 16}},
@@ -208,7 +208,9 @@ static void try_refusals(void)
     expect_payload("8200448218" "18" "a0", DPE_POLICY_REFUSED);
     expect_payload("8200448218" "1a" "a0", DPE_JOURNAL_FULL);
     expect_payload("8200448218" "1b" "a0", DPE_ROOT_LOCALITY);
-    expect_payload("8200448218" "1c" "a0", DPE_NO_REPLY);
+    expect_payload("8200448218" "1c" "a0", DPE_NO_DEFAULT);
+    expect_payload("8200448218" "1d" "a0", DPE_DEFAULT_TAKEN);
+    expect_payload("8200448218" "1e" "a0", DPE_NO_REPLY);
     expect_payload("8200448218" "11" "a0", DPE_NO_REPLY); /* a code in more bytes than it needs */
     expect_payload("820045821900" "11" "a0", DPE_NO_REPLY);
     expect_payload("8200448211b800", DPE_NO_REPLY); /* a map's head in more bytes than it needs */
@@ -236,7 +238,7 @@ static void try_arguments(void)
     size_t length;
     memory.written = 0;
     dpe_open(&dpe, (struct dpe_transport){&memory, keep_sent, give});
-    expect("no handle", ROTATE, DPE_NOT_SENT, dpe_rotate(&dpe, &none));
+    expect("no handle", ROTATE, DPE_NOT_SENT, dpe_rotate(&dpe, &none, false));
     expect("no handle to ask for", ROTATE, DPE_NOT_SENT, dpe_find_out(&dpe, &none));
     expect("label", SIGN, DPE_NOT_SENT, dpe_sign(&dpe, &live, true, label, data, made));
     expect("message", SIGN, DPE_NOT_SENT, dpe_sign(&dpe, &live, true, NO_LABEL, much, made));
@@ -250,12 +252,65 @@ static void try_arguments(void)
     }
 }
 
+/* What is sent for one call, after a reply that stands in the memory, and what becomes of the handle. */
+static void expect_sent(const char *digits, enum dpe_status wanted, enum dpe_status found, enum dpe_handle_state became,
+                        const struct dpe_handle *handle)
+{
+    uint8_t frame[64];
+    size_t length = put_digits(frame, digits);
+    expect(digits, ROTATE, wanted, found);
+    if (memory.written != length || memcmp(memory.sent, frame, length) != 0 || handle->state != became) {
+        printf("%s: something else was sent, or the handle's state is %d\n", digits, (int)handle->state);
+        faults++;
+    }
+}
+
+static void start(struct dpe *dpe, const char *reply)
+{
+    uint8_t payload[64];
+    put_frame(payload, put_digits(payload, reply));
+    memory.read = memory.written = 0;
+    dpe_open(dpe, (struct dpe_transport){&memory, keep_sent, give});
+}
+
+/* Commands on the default context have no handle, and what stands for it stays so but for a rotation that gives it one. */
+static void try_defaults(void)
+{
+    static const char *const NEW_HANDLE = "8200558200a1015000000000000000040000000000000000";
+    static struct dpe dpe;
+    static uint8_t made[DPE_MOST_BOX];
+    const struct dpe_bytes message = {(const uint8_t *)"hi", 2};
+    struct dpe_handle root = {0}, by_default = {.state = DPE_DEFAULT};
+    start(&dpe, NEW_HANDLE);
+    expect_sent("0000000882004582" "07a102f5", DPE_OK, dpe_initialize(&dpe, true, &root), DPE_LIVE, &root);
+    start(&dpe, NEW_HANDLE);
+    expect_sent("0000000882004582" "0ea102f5", DPE_OK, dpe_rotate(&dpe, &by_default, true), DPE_DEFAULT, &by_default);
+    start(&dpe, "82004482181ca0");
+    expect_sent("0000000c82004982" "0aa204f505426869", DPE_NO_DEFAULT,
+                dpe_sign(&dpe, &by_default, false, NO_LABEL, message, made), DPE_DEFAULT, &by_default);
+    start(&dpe, "8200438216a0");
+    expect_sent("0000000882004582" "0ca10540", DPE_OK, dpe_find_out(&dpe, &by_default), DPE_DEFAULT, &by_default);
+    start(&dpe, "82004482181ca0");
+    expect_sent("0000000882004582" "0ca10540", DPE_NO_DEFAULT, dpe_find_out(&dpe, &by_default), DPE_DEFAULT, &by_default);
+    start(&dpe, "8200438200a0");
+    expect_sent("0000000882004582" "0fa102f5", DPE_OK, dpe_destroy(&dpe, &by_default, true), DPE_DEFAULT, &by_default);
+    start(&dpe, "00");
+    expect_sent("0000000682004382" "0ea0", DPE_NO_REPLY, dpe_rotate(&dpe, &by_default, false), DPE_DEFAULT, &by_default);
+    start(&dpe, NEW_HANDLE);
+    expect_sent("0000000682004382" "0ea0", DPE_OK, dpe_rotate(&dpe, &by_default, false), DPE_LIVE, &by_default);
+    if (memcmp(by_default.bytes, root.bytes, DPE_HANDLE_BYTES) != 0) {
+        printf("the rotated context's handle isn't the one that came\n");
+        faults++;
+    }
+}
+
 int main(void)
 {
     for (size_t i = 0; i < sizeof REPLIES / sizeof *REPLIES; i++)
         try_changes(&REPLIES[i]);
     try_refusals();
     try_arguments();
+    try_defaults();
     printf("%u replies tried, %u faults\n", tries, faults);
     return faults == 0 ? 0 : 1;
 }

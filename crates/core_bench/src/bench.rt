@@ -26,8 +26,9 @@ pub struct Bench {
     folds: Count,
 }
 
-// A derivation by one layer.
-fn derivation<'a>(handle: &'a [u8; 16], retain: bool) -> Command<'a>
+// A derivation by one layer of a context, or of the default one. The child is the default context of its locality, or
+// isn't.
+fn derivation<'a>(handle: Option<&'a [u8; 16]>, retain: bool, child_default: bool) -> Command<'a>
     ensures { IsCommandWritable result }
 {
     Command::Derive(Derive {
@@ -40,31 +41,51 @@ fn derivation<'a>(handle: &'a [u8; 16], retain: bool) -> Command<'a>
         retain,
         may_derive: true,
         locality: None,
+        child_default,
     })
 }
 
+// A rotation of a context, or of the default one, which keeps its mark where it is to be the default.
+fn rotation<'a>(handle: Option<&'a [u8; 16]>, default: bool) -> Command<'a>
+    ensures { IsCommandWritable result }
+{
+    Command::Rotate { handle, default }
+}
+
 impl Bench {
-    // A root alone.
+    // A root alone, which is the default context.
     fn root(alloc: Global) -> Result<Bench, AllocError> {
         let mut bench = Bench {
             core: Core::make(alloc, &[0; 32], 1)?,
             folds: Count::new(),
         };
-        bench.prepare(&Command::Initialize);
+        bench.prepare(&Command::Initialize { default: true });
         Ok(bench)
     }
 
-    /// A root with children by one layer, all of which live, and then so many layers in place of the root.
+    /// A root with children by one layer, all of which live, and then so many layers in place of the root. The last of
+    /// these is the default context.
     // no clause: it is measured, and a stored run shows its reply.
     pub fn make(alloc: Global, live: u32, depth: u32) -> Result<Bench, AllocError> {
         let mut bench = Bench::root(alloc)?;
         for _ in 1..live {
             let root = bench.newest();
-            bench.prepare(&derivation(&root, true));
+            bench.prepare(&derivation(Some(&root), true, false));
         }
         for _ in 0..depth {
             let parent = bench.newest();
-            bench.prepare(&derivation(&parent, false));
+            bench.prepare(&derivation(Some(&parent), false, true));
+        }
+        Ok(bench)
+    }
+
+    /// The same, where the default context is the one whose handle is the oldest.
+    // no clause: it is measured, and a stored run shows its reply.
+    pub fn make_by_default(alloc: Global, live: u32, depth: u32) -> Result<Bench, AllocError> {
+        let mut bench = Bench::make(alloc, live, depth)?;
+        for _ in 1..live {
+            let oldest = bench.handle(0);
+            bench.prepare(&rotation(Some(&oldest), false));
         }
         Ok(bench)
     }
@@ -82,14 +103,14 @@ impl Bench {
     // Adds a context below the newest one, which is then the newest again.
     fn branch(&mut self, depth: u32) {
         let above = self.newest();
-        self.prepare(&derivation(&above, true));
+        self.prepare(&derivation(Some(&above), true, false));
         let above = self.newest();
         let mut below = self.handle(self.core.live().saturating_sub(2));
         for _ in 1..depth {
-            self.prepare(&derivation(&below, false));
+            self.prepare(&derivation(Some(&below), false, false));
             below = self.newest();
         }
-        self.prepare(&Command::Rotate(&above));
+        self.prepare(&rotation(Some(&above), true));
     }
 
     // The handle of the context at a place in the order of serials; zeros where there is none.
@@ -137,7 +158,7 @@ impl Bench {
             .execute(0, &[0; 32], payload, reply, &mut self.folds)
     }
 
-    fn sign(&mut self, handle: &[u8; 16], reply: &mut [u8; 4096]) -> usize
+    fn sign(&mut self, handle: Option<&[u8; 16]>, reply: &mut [u8; 4096]) -> usize
         ensures { result ≤ 4096 }
     {
         let sign = Sign {
@@ -149,7 +170,7 @@ impl Bench {
         self.execute(&Command::Sign(sign), reply)
     }
 
-    fn seal(&mut self, handle: &[u8; 16], reply: &mut [u8; 4096]) -> usize
+    fn seal(&mut self, handle: Option<&[u8; 16]>, reply: &mut [u8; 4096]) -> usize
         ensures { result ≤ 4096 }
     {
         let seal = Seal {
@@ -163,7 +184,12 @@ impl Bench {
         self.execute(&Command::Seal(seal), reply)
     }
 
-    fn unseal(&mut self, handle: &[u8; 16], sealed: &[u8; 117], reply: &mut [u8; 4096]) -> usize
+    fn unseal(
+        &mut self,
+        handle: Option<&[u8; 16]>,
+        sealed: &[u8; 117],
+        reply: &mut [u8; 4096],
+    ) -> usize
         ensures { result ≤ 4096 }
     {
         let unseal = Unseal {
@@ -176,29 +202,34 @@ impl Bench {
     }
 
     // Derives from a context that is retained, and destroys the child, which isn't counted.
-    fn come_and_go(&mut self, handle: &[u8; 16], reply: &mut [u8; 4096]) -> usize
+    fn come_and_go(&mut self, handle: Option<&[u8; 16]>, reply: &mut [u8; 4096]) -> usize
         ensures { result ≤ 4096 }
     {
-        let len = self.execute(&derivation(handle, true), reply);
+        let len = self.execute(&derivation(handle, true, false), reply);
         let child = self.handle(self.core.live().saturating_sub(2));
         self.prepare(&Command::Destroy {
-            handle: &child,
+            handle: Some(&child),
             recursive: false,
         });
         len
     }
 
-    fn destroy(&mut self, handle: &[u8; 16], recursive: bool, reply: &mut [u8; 4096]) -> usize
+    fn destroy(
+        &mut self,
+        handle: Option<&[u8; 16]>,
+        recursive: bool,
+        reply: &mut [u8; 4096],
+    ) -> usize
         ensures { result ≤ 4096 }
     {
         self.execute(&Command::Destroy { handle, recursive }, reply)
     }
 
-    // A box that the oldest context seals.
+    // A box that the newest context seals.
     fn sealed(&mut self) -> [u8; 117] {
         let mut reply = [0; 4096];
-        let oldest = self.handle(0);
-        let len = self.seal(&oldest, &mut reply);
+        let newest = self.newest();
+        let len = self.seal(Some(&newest), &mut reply);
         let mut sealed = [0; 117];
         if len >= BOX_LENGTH {
             sealed.copy_from_slice(&reply[len - BOX_LENGTH..len]);
@@ -206,9 +237,15 @@ impl Bench {
         sealed
     }
 
-    /// So many commands, each on the context whose handle is the oldest. The length of the last reply; `None` where
-    /// there is no command of this name.
-    pub fn repeated(&mut self, kind: &str, count: u32, reply: &mut [u8; 4096]) -> Option<usize>
+    /// So many commands, each on the context whose handle is the oldest, or, without a name, on the default one. The
+    /// length of the last reply; `None` where there is no command of this kind.
+    pub fn repeated(
+        &mut self,
+        kind: &str,
+        named: bool,
+        count: u32,
+        reply: &mut [u8; 4096],
+    ) -> Option<usize>
         ensures { IfSome result (λ len. len ≤ 4096) }
     {
         let sealed = if kind == "unseal" {
@@ -219,16 +256,17 @@ impl Bench {
         let mut len = 0;
         for _ in 0..count {
             let oldest = self.handle(0);
-            len = self.once(kind, &oldest, &sealed, reply)?;
+            let handle = if named { Some(&oldest) } else { None };
+            len = self.once(kind, handle, &sealed, reply)?;
         }
         Some(len.min(reply.len()))
     }
 
-    // One command on the context with this handle.
+    // One command on the context with this handle, or on the default one.
     fn once(
         &mut self,
         kind: &str,
-        handle: &[u8; 16],
+        handle: Option<&[u8; 16]>,
         sealed: &[u8; 117],
         reply: &mut [u8; 4096],
     ) -> Option<usize>
@@ -241,7 +279,7 @@ impl Bench {
         } else if kind == "unseal" {
             Some(self.unseal(handle, sealed, reply))
         } else if kind == "rotate" {
-            Some(self.execute(&Command::Rotate(handle), reply))
+            Some(self.execute(&rotation(handle, handle.is_none()), reply))
         } else if kind == "derive" {
             Some(self.come_and_go(handle, reply))
         } else {
@@ -250,7 +288,12 @@ impl Bench {
     }
 
     // One context destroyed, or with it all those below it.
-    fn destroyed(&mut self, kind: &str, handle: &[u8; 16], reply: &mut [u8; 4096]) -> Option<usize>
+    fn destroyed(
+        &mut self,
+        kind: &str,
+        handle: Option<&[u8; 16]>,
+        reply: &mut [u8; 4096],
+    ) -> Option<usize>
         ensures { IfSome result (λ len. len ≤ 4096) }
     {
         if kind == "destroy" {
@@ -259,7 +302,7 @@ impl Bench {
             Some(self.destroy(handle, true, reply))
         } else if kind == "family" {
             let root = self.newest();
-            Some(self.destroy(&root, true, reply))
+            Some(self.destroy(Some(&root), true, reply))
         } else {
             None
         }

@@ -10,14 +10,14 @@ use Rattle.dpe_inputs.specs.declared.Cdis.{Cdis}
 use Rattle.dpe_inputs.specs.Cdi.{attest_step, seal_step}
 use Rattle.dpe_handles.specs.declared.row.Row.{Row}
 use Rattle.dpe_handles.specs.Rows.{serial, IsAscending}
-use Rattle.dpe_tree.specs.Tree.{Places, Node, lineage, lineage_of, cdis, live_count, context, with_node, ended, child, IsFree, IsTree, SameElsewhere, depth}
+use Rattle.dpe_tree.specs.Tree.{Places, Node, lineage, lineage_of, cdis, live_count, context, with_node, ended, child, IsFree, IsTree, SameElsewhere, depth, place_limit, depth_limit, context_limit}
 use Rattle.dpe_tree.specs.Tree.{IsUnborn as unborn}
 use Rattle.dpe_model.specs.State as model
 use Rattle.dpe_model.specs.declared.lineage.Birth as births
 use Rattle.dpe_model.specs.Step.{renamed, taken_out, family_out, same_birth}
 use Rattle.dpe_core.specs.declared.contexts.Child.{Child}
 use Rattle.dpe_core.specs.Contexts.{Kept, Of, AreCdis, IsAfter, IsUnborn, with_rows, child_of}
-use Rattle.dpe_core.specs.Kept.{Live, Keeps, Ends, IsOwned, IsOwnedBut, birth_of, births_of, row_of, row_with, row_for, rows_of, is_outside, IsFolded, AreFolded}
+use Rattle.dpe_core.specs.Kept.{Live, Keeps, Ends, IsOwned, IsOwnedBut, birth_of, births_of, row_of, row_with, row_of_child, rows_of, is_outside, IsFolded, AreFolded}
 use Rattle.dpe_core.proofs.Owned.{IsEnded, IsBegun, row_is_live, owned_less, owned_again, owned_ended, owned_begun, owned_begun_but, apart_other, free_other, owned_is_live, same_rows}
 use Rattle.dpe_core.proofs.Places.{is_live_place, is_used_place, is_place, same_node, ends_at, begins_at, still_free, is_free, apart_from_free}
 use Rattle.dpe_core.proofs.Folding.{folded_ends, folded_ended, folded_begun, folded_place, folded_child}
@@ -54,13 +54,13 @@ last_left seed live rows rest before at handle same is h =
     subst (λ rs. All (λ (r : Row). serial r.handle < serial handle) rs) (sym is) (All-remove (λ (r : Row). serial r.handle < serial handle) rows at all)
 
 -- the same of a child's row
-pub last_of_child : (seed : List ℕ) (live : Live) (rows rest : List Row) (before : Kept) (at : ℕ) (c : Child) (r : Row) (place : ℕ) → r ≡ row_for c place
+pub last_of_child : (seed : List ℕ) (live : Live) (rows rest : List Row) (before : Kept) (at : ℕ) (c : Child) (r : Row) (place : ℕ) → r ≡ row_of_child c place
     → record { seed = seed; rows = rows_of live rows } ≡ before → rest ≡ remove rows at → IsAfter before.rows (model.serial c.handle) → All (λ (other : Row). serial other.handle < serial r.handle) rest
 last_of_child seed live rows rest before at c r place is_row same is h =
     subst (λ (x : Row). All (λ (other : Row). serial other.handle < serial x.handle) rest) (sym is_row) (last_left seed live rows rest before at c.handle same is h)
 
 -- and of its parent's behind it
-pub last_of_parent : (rest now : List Row) (c : Child) (r : Row) (place : ℕ) (handle : List ℕ) → r ≡ row_for c place
+pub last_of_parent : (rest now : List Row) (c : Child) (r : Row) (place : ℕ) (handle : List ℕ) → r ≡ row_of_child c place
     → now ≡ rest ++ r ∷ [] → model.serial c.handle < model.serial handle → All (λ (other : Row). serial other.handle < serial r.handle) rest → All (λ (other : Row). serial other.handle < serial handle) now
 unfolding serial
 last_of_parent rest now c r place handle is_row pushes less h =
@@ -73,7 +73,7 @@ last_of_parent rest now c r place handle is_row pushes less h =
 
 -- there is room for the parent's
 pub room_again : (seed : List ℕ) (live : Live) (rows rest now : List Row) (before : Kept) (at : ℕ) (r : Row) → record { seed = seed; rows = rows_of live rows } ≡ before → rest ≡ remove rows at → now ≡ rest ++ r ∷ []
-    → at < length before.rows → length before.rows < 256 → length now < 256
+    → at < length before.rows → length before.rows < context_limit → length now < context_limit
 room_again seed live rows rest now before at r same is pushes place room =
     let all : length before.rows ≡ length rows = sym (ap (λ (k : Kept). length k.rows) same) ∙ length-map rows (row_of live) in
     let less = length-remove rows at (omega arith) in
@@ -105,12 +105,12 @@ module _ (seed : List ℕ) (tree : Places) (rows : List Row) (keeps : Keeps seed
     many = (let m = keeps.many in let f = fewer in let l = ap length pushes in let a = length-append rest (again ∷ []) in omega arith);
   }
 
-  pub rows_renamed : IsAscending rows → (again : Row) (now : List Row) (handle : List ℕ) → again ≡ record row { handle = handle } → now ≡ rest ++ again ∷ []
-      → rows_of (context tree) now ≡ taken_out (row_of (context tree) row) (rows_of (context tree) rows) ++ renamed (row_of (context tree) row) handle ∷ []
-  rows_renamed up again now handle same pushes =
+  pub rows_again : IsAscending rows → (again : Row) (now : List Row) (new : model.Row) → row_of (context tree) again ≡ new → now ≡ rest ++ again ∷ []
+      → rows_of (context tree) now ≡ taken_out (row_of (context tree) row) (rows_of (context tree) rows) ++ new ∷ []
+  rows_again up again now new same pushes =
       pushed (context tree) rest now again pushes
       ∙ (ap (λ rs. rs ++ row_of (context tree) again ∷ []) (out up)
-      ∙ ap (λ (r : Row). taken_out (row_of (context tree) row) (rows_of (context tree) rows) ++ row_of (context tree) r ∷ []) same)
+      ∙ ap (λ r. taken_out (row_of (context tree) row) (rows_of (context tree) rows) ++ r ∷ []) same)
 
   -- an end
   ends_here : (new : Places) → context new row.place ≡ None → SameElsewhere tree new row.place → IsEnded (context tree) (context new) row.place
@@ -159,10 +159,10 @@ module _ (seed : List ℕ) (tree : Places) (rows : List Row) (keeps : Keeps seed
       (subst (λ o. AreFolded seed (births_of o) old_cdis) (same_node tree row.place here) at_parent) attest seal
 
   -- what the row of the child stands for
-  child_seen : (new : Places) (c : Child) (place n : ℕ) (input : Input) (new_cdis : Cdis) (r : Row) → r ≡ row_for c place
+  child_seen : (new : Places) (c : Child) (place n : ℕ) (input : Input) (new_cdis : Cdis) (r : Row) → r ≡ row_of_child c place
       → context new place ≡ Some (node_of n input new_cdis) → row_of (context new) r ≡ child_of (row_of (context tree) row) c n input
   child_seen new c place n input new_cdis r is_row is_node =
-      let with_lineage : List births.Birth → model.Row = λ l. record { handle = c.handle; locality = c.locality; may_derive = c.may_derive; lineage = l } in
+      let with_lineage : List births.Birth → model.Row = λ l. record { handle = c.handle; locality = c.locality; may_derive = c.may_derive; default = c.default; lineage = l } in
       ap (row_of (context new)) is_row
       ∙ (ap (λ o. with_lineage (births_of o)) is_node
       ∙ (ap with_lineage (map-append birth_of (lineage tree row.place) (record { serial = n; input = input } ∷ []))
@@ -188,7 +188,7 @@ module _ (seed : List ℕ) (tree : Places) (rows : List Row) (keeps : Keeps seed
       many = (let m = keeps.many in let f = fewer in let l = ap length pushes in let a = length-append rest (r ∷ []) in omega arith);
     }
 
-    pub rows_derived : IsAscending rows → (c : Child) (r : Row) (now : List Row) → r ≡ row_for c place → now ≡ rest ++ r ∷ []
+    pub rows_derived : IsAscending rows → (c : Child) (r : Row) (now : List Row) → r ≡ row_of_child c place → now ≡ rest ++ r ∷ []
         → rows_of (context new) now ≡ taken_out (row_of (context tree) row) (rows_of (context tree) rows) ++ child_of (row_of (context tree) row) c n input ∷ []
     rows_derived up c r now is_row pushes =
         let stays : rows_of (context new) rest ≡ rows_of (context tree) rest = same_rows (context tree) (context new) rest (λ other le.
@@ -219,7 +219,7 @@ module _ (seed : List ℕ) (tree : Places) (rows : List Row) (keeps : Keeps seed
               let k = ap length pushes_again in let b = length-append more (again ∷ []) in omega arith);
         }
 
-    pub rows_with_child : IsAscending rows → (c : Child) (handle : List ℕ) → r ≡ row_for c place → again ≡ record row { handle = handle }
+    pub rows_with_child : IsAscending rows → (c : Child) (handle : List ℕ) → r ≡ row_of_child c place → again ≡ record row { handle = handle }
         → rows_of (context new) now ≡ taken_out (row_of (context tree) row) (rows_of (context tree) rows) ++ child_of (row_of (context tree) row) c n input ∷ renamed (row_of (context tree) row) handle ∷ []
     rows_with_child up c handle is_row is_again =
         let gone = taken_out (row_of (context tree) row) (rows_of (context tree) rows) in
@@ -237,7 +237,7 @@ module _ (seed : List ℕ) (tree : Places) (rows : List Row) (keeps : Keeps seed
 -- ## The requirements of the arena
 
 module _ (seed : List ℕ) (tree : Places) (rows : List Row) (before : Kept) (same : record { seed = seed; rows = rows_of (context tree) rows } ≡ before) (at : ℕ) (row : Row) (is : slice_get rows at ≡ Some row) (own : IsOwned (context tree) rows) where
-  pub depth_here : Of before.rows at (λ r. model.depth r < 16) → depth tree row.place < 16
+  pub depth_here : Of before.rows at (λ r. model.depth r < depth_limit) → depth tree row.place < depth_limit
   depth_here h =
       let seen = subst (λ (k : Kept). slice_get k.rows at ≡ Some (row_of (context tree) row)) same (row_seen (context tree) rows at row is) in
       let less = h (row_of (context tree) row) seen in
@@ -248,7 +248,7 @@ module _ (seed : List ℕ) (tree : Places) (rows : List Row) (before : Kept) (sa
   pub unborn_here : (n : ℕ) → IsTree tree → IsUnborn before.rows n → unborn tree n
   unborn_here n shape h = unborn_place tree rows n shape own (subst (λ (k : Kept). IsUnborn k.rows n) (sym same) h)
 
-  pub within_here : IsTree tree → row.place < 4097
+  pub within_here : IsTree tree → row.place < place_limit
   within_here shape =
       let lt = is_place tree row.place (is_used_place tree row.place (row_is_live (context tree) rows at row own is)) in
       let p = shape.places in omega arith

@@ -6,4 +6,6 @@ pub mod Owned
 pub mod Places
 pub mod PlainLists
 pub mod Views
+pub mod Marks
+pub mod Judged
 pub mod Serials

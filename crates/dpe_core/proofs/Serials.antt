@@ -1,5 +1,5 @@
 -- What a valid state gives to the changes of its contexts.
-use Rattle.std.proofs.Common.{◌≡◌, ℕ, ◌<◌, List, sym, subst, take, length, arith, All}
+use Rattle.std.proofs.Common.{◌≡◌, ℕ, ◌<◌, List, sym, subst, take, length, arith, All, Option}
 use Rattle.std.proofs.lemmas.List.Elements.{All-from_recursion}
 use Rattle.std.proofs.lemmas.Option.{slice_get_within}
 use Rattle.dpe_model.specs.declared.lineage.Birth.{Birth}
@@ -7,11 +7,11 @@ use Rattle.dpe_model.specs.State.{Row, State, Valid, IsRow, IsGiven, serial}
 use Rattle.dpe_model.specs.Step.{new0}
 use Rattle.dpe_model.proofs.Accepted.{serial-handle_of}
 use Rattle.dpe_model.proofs.Spent.{weaker_all}
-use Rattle.dpe_core.specs.Contexts.{IsAfter, IsUnborn, IsNamedAt}
+use Rattle.dpe_core.specs.Contexts.{IsAfter, IsUnborn, IsMeantAt}
 
--- the row that a handle names is there
-pub place_in : (rows : List Row) (handle : List ℕ) (at : ℕ) → IsNamedAt rows handle at → at < length rows
-place_in rows handle at h = slice_get_within rows at h.0 h.1
+-- the row that is meant is there
+pub place_in : (rows : List Row) (locality : ℕ) (name : Option (List ℕ)) (at : ℕ) → IsMeantAt rows locality name at → at < length rows
+place_in rows locality name at h = slice_get_within rows at h.0 h.1
 
 next_is_after : (S : State) → Valid S → IsAfter S.rows S.next
 next_is_after S v =

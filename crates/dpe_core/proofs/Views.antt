@@ -12,7 +12,8 @@ use Rattle.dpe_tree.specs.Tree as tree
 use Rattle.dpe_model.specs.State as model
 use Rattle.dpe_model.specs.Step.{taken_out}
 use Rattle.dpe_model.specs.LiveRows.{live_of}
-use Rattle.dpe_core.specs.Contexts.{Kept, Of, named, IsNamedAt}
+use Rattle.dpe_model.specs.Verdict.{row_for}
+use Rattle.dpe_core.specs.Contexts.{Kept, Of, IsMeantAt}
 use Rattle.dpe_core.specs.Kept.{Live, birth_of, row_of, rows_of, IsOwned}
 use Rattle.dpe_core.proofs.Owned.{row_is_live}
 use Rattle.dpe_core.proofs.Places.{same_node}
@@ -24,19 +25,27 @@ pub of_row : (live : Live) (rows : List Row) (at : ℕ) (row : Row) (P : model.R
 of_row live rows at row P is h seen there =
     subst P (same_Some (row_of live row) seen (ap (option_map (row_of live)) (sym is) ∙ (sym (slice_get-map (row_of live) rows at) ∙ there))) h
 
+-- a fact of the row at a place holds of the row that it stands for
+pub each_of : (live : Live) (rows : List Row) (at : ℕ) (P : model.Row → Type 0) → ((row : Row) → slice_get rows at ≡ Some row → P (row_of live row)) → Of (rows_of live rows) at P
+each_of live rows at P h seen there = by_row (slice_get rows at) refl (sym (slice_get-map (row_of live) rows at) ∙ there)
+  where
+    by_row : (found : Option Row) → slice_get rows at ≡ found → option_map (row_of live) found ≡ Some seen → P seen
+    by_row None is e = absurd cc
+    by_row (Some row) is e = subst P (same_Some (row_of live row) seen e) (h row is)
+
 pub row_seen : (live : Live) (rows : List Row) (at : ℕ) (row : Row) → slice_get rows at ≡ Some row → slice_get (rows_of live rows) at ≡ Some (row_of live row)
 row_seen live rows at row is = slice_get-map (row_of live) rows at ∙ ap (option_map (row_of live)) is
 
 -- ## Handles
 
-differs : (a b : List ℕ) → a ≢ b → bytes_eq a b ≡ false
+pub differs : (a b : List ℕ) → a ≢ b → bytes_eq a b ≡ false
 differs a b ne = by_test (bytes_eq a b) (bytes_eq-Decides a b).0
   where
     by_test : (t : Bool) → (t ≡ true → a ≡ b) → t ≡ false
     by_test true h = absurd (ne (h refl))
     by_test false h = refl
 
-other_handle : (rows : List Row) (at : ℕ) (row : Row) → IsAscending rows → slice_get rows at ≡ Some row → (k : ℕ) (d : Row) → k < length rows → k ≢ at → (get_or rows k d).handle ≢ row.handle
+pub other_handle : (rows : List Row) (at : ℕ) (row : Row) → IsAscending rows → slice_get rows at ≡ Some row → (k : ℕ) (d : Row) → k < length rows → k ≢ at → (get_or rows k d).handle ≢ row.handle
 other_handle rows at row up is k d lt ne e =
     let here : serial (get_or rows at d).handle ≡ serial row.handle = ap (λ (r : Row). serial r.handle) (get_or_from_slice_get rows at row d is) in
     let same : serial (get_or rows k d).handle ≡ serial row.handle = ap serial e in
@@ -54,34 +63,34 @@ taken_out_is live rows at row up is =
     (λ d. ap not ((bytes_eq-Decides _ _).1 (ap (λ (r : Row). r.handle) (get_or_from_slice_get rows at row d is))))
     (λ k d lt ne. ap not (differs _ _ (other_handle rows at row up is k d lt ne))))
 
-pub named_is : (live : Live) (rows : List Row) (at : ℕ) (row : Row) → IsAscending rows → slice_get rows at ≡ Some row → named (rows_of live rows) row.handle ≡ Some (row_of live row)
-named_is live rows at row up is =
+pub named_is : (live : Live) (rows : List Row) (locality at : ℕ) (row : Row) → IsAscending rows → slice_get rows at ≡ Some row → row_for (rows_of live rows) locality (Some row.handle) ≡ Some (row_of live row)
+named_is live rows locality at row up is =
     find-map (row_of live) (λ (r : model.Row). bytes_eq r.handle row.handle) rows
     ∙ ap (option_map (row_of live)) (find_first (λ (r : Row). bytes_eq r.handle row.handle) rows at row is ((bytes_eq-Decides row.handle row.handle).1 refl)
     (λ k d lt. differs _ _ (other_handle rows at row up is k d (let w = slice_get_within rows at row is in omega arith) (λ e. absurd (omega arith)))))
 
-pub not_named : (live : Live) (rows : List Row) (handle : List ℕ) → ((at : ℕ) (row : Row) → slice_get rows at ≡ Some row → row.handle ≢ handle) → named (rows_of live rows) handle ≡ None
-not_named live rows handle h =
+pub not_named : (live : Live) (rows : List Row) (locality : ℕ) (handle : List ℕ) → ((at : ℕ) (row : Row) → slice_get rows at ≡ Some row → row.handle ≢ handle) → row_for (rows_of live rows) locality (Some handle) ≡ None
+not_named live rows locality handle h =
     find-map (row_of live) (λ (r : model.Row). bytes_eq r.handle handle) rows
     ∙ ap (option_map (row_of live)) (find_none (λ (r : Row). bytes_eq r.handle handle) rows (λ at row is. differs _ _ (h at row is)))
 
 -- ## What is told of rows
 
-pub named_at : (live : Live) (rows : List Row) (handle : List ℕ) (at : ℕ) → IsAscending rows → HasHandle rows handle at → IsNamedAt (rows_of live rows) handle at
-named_at live rows handle at up h =
-    (row_of live h.0, row_seen live rows at h.0 h.1, subst (λ t. named (rows_of live rows) t ≡ Some (row_of live h.0)) h.2 (named_is live rows at h.0 up h.1))
+pub named_at : (live : Live) (rows : List Row) (locality : ℕ) (handle : List ℕ) (at : ℕ) → IsAscending rows → HasHandle rows handle at → IsMeantAt (rows_of live rows) locality (Some handle) at
+named_at live rows locality handle at up h =
+    (row_of live h.0, row_seen live rows at h.0 h.1, subst (λ t. row_for (rows_of live rows) locality (Some t) ≡ Some (row_of live h.0)) h.2 (named_is live rows locality at h.0 up h.1))
 
 pub found_handle : (seed : List ℕ) (live : Live) (rows : List Row) (before : Kept) (handle : List ℕ) (found : Option ℕ) → record { seed = seed; rows = rows_of live rows } ≡ before → IsAscending rows
-    → IfSome found (HasHandle rows handle) → IfSome found (IsNamedAt before.rows handle)
-found_handle seed live rows before handle found same up h =
-    subst (λ (k : Kept). IfSome found (IsNamedAt k.rows handle)) same (IfSome_then found h (λ at is. named_at live rows handle at up is))
+    → IfSome found (HasHandle rows handle) → (locality : ℕ) → IfSome found (IsMeantAt before.rows locality (Some handle))
+found_handle seed live rows before handle found same up h locality =
+    subst (λ (k : Kept). IfSome found (IsMeantAt k.rows locality (Some handle))) same (IfSome_then found h (λ at is. named_at live rows locality handle at up is))
 
 pub absent_handle : (seed : List ℕ) (live : Live) (rows : List Row) (before : Kept) (handle : List ℕ) (found : Option ℕ) → record { seed = seed; rows = rows_of live rows } ≡ before
-    → IfNone found (HasNoHandle rows handle) → IfNone found (named before.rows handle ≡ None)
-absent_handle seed live rows before handle found same h = subst (λ (k : Kept). IfNone found (named k.rows handle ≡ None)) same (none found h)
+    → IfNone found (HasNoHandle rows handle) → (locality : ℕ) → IfNone found (row_for before.rows locality (Some handle) ≡ None)
+absent_handle seed live rows before handle found same h locality = subst (λ (k : Kept). IfNone found (row_for k.rows locality (Some handle) ≡ None)) same (none found h)
   where
-    none : (found : Option ℕ) → IfNone found (HasNoHandle rows handle) → IfNone found (named (rows_of live rows) handle ≡ None)
-    none None k = not_named live rows handle k
+    none : (found : Option ℕ) → IfNone found (HasNoHandle rows handle) → IfNone found (row_for (rows_of live rows) locality (Some handle) ≡ None)
+    none None k = not_named live rows locality handle k
     none (Some at) k = tt
 
 same_mode : (m : ℕ) (births : List tree.Birth) → model.last_mode m (map birth_of births) ≡ tree.last_mode m births

@@ -7,4 +7,4 @@ use Rattle.dpe_model.specs.Step.{new0}
 
 abbrev pub born : State → ℕ → List ℕ → DeriveRequest → Child
 born S locality random d =
-    record { handle = new0 S random; locality = locality_or locality d; may_derive = d.may_derive }
+    record { handle = new0 S random; locality = locality_or locality d; may_derive = d.may_derive; default = d.child_default }

@@ -1,10 +1,10 @@
 -- The live contexts of one seed, and what a command does to them.
-use Rattle.std.specs.Prelude.{ℕ, ◌<◌, ◌≡◌, List, [], ◌∷◌, ◌++◌, All, find, slice_get, Option, Some}
-use Rattle.std.specs.Str.{bytes_eq}
+use Rattle.std.specs.Prelude.{ℕ, ◌<◌, ◌≡◌, List, [], ◌∷◌, ◌++◌, All, Bool, true, false, slice_get, Option, Some}
 use Rattle.dpe_inputs.specs.declared.Input.{Input}
 use Rattle.dpe_inputs.specs.declared.Cdis.{Cdis}
 use Rattle.dpe_inputs.specs.Cdi.{attest_cdi, seal_cdi}
 use Rattle.dpe_model.specs.State.{Row, path, serial}
+use Rattle.dpe_model.specs.Verdict.{row_for, is_taken}
 use Rattle.dpe_model.specs.Step.{renamed, taken_out}
 use Rattle.dpe_core.specs.declared.contexts.Child.{Child}
 
@@ -21,13 +21,13 @@ with_rows kept rows = record { seed = kept.seed; rows = rows }
 abbrev pub Of : List Row → ℕ → (Row → Type 0) → Type 0
 Of rows at fact = (row : Row) → slice_get rows at ≡ Some row → fact row
 
--- the row with a handle, if there is one
-abbrev pub named : List Row → List ℕ → Option Row
-named rows handle = find (λ row. bytes_eq row.handle handle) rows
+-- the row at this place is the one that a caller at a locality means: the one with the handle, or the default
+abbrev pub IsMeantAt : List Row → ℕ → Option (List ℕ) → ℕ → Type 0
+IsMeantAt rows locality name at = (row : Row) × (slice_get rows at ≡ Some row) × (row_for rows locality name ≡ Some row)
 
--- the handle names the row at this place
-abbrev pub IsNamedAt : List Row → List ℕ → ℕ → Type 0
-IsNamedAt rows handle at = (row : Row) × (slice_get rows at ≡ Some row) × (named rows handle ≡ Some row)
+-- where there is to be a default of this locality, none stands that stays beside it
+abbrev pub IsMarkable : List Row → Bool → Bool → ℕ → Row → Type 0
+IsMarkable rows default stays locality row = default ≡ true → is_taken rows stays row locality ≡ false
 
 -- the serial is greater than that of each handle
 abbrev pub IsAfter : List Row → ℕ → Type 0
@@ -47,6 +47,7 @@ child_of row child n input = record {
   handle = child.handle;
   locality = child.locality;
   may_derive = child.may_derive;
+  default = child.default;
   lineage = row.lineage ++ record { serial = n; input = input } ∷ [];
 }
 

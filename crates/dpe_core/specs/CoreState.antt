@@ -1,5 +1,5 @@
 -- The state that an executor stands for, and what it is to obey a command.
-use Rattle.std.specs.Prelude.{ℕ, ◌+◌, ◌≡◌, List, ◌++◌, Bool, Option, None, if◌then◌else◌}
+use Rattle.std.specs.Prelude.{ℕ, ◌+◌, ◌≡◌, List, [], ◌∷◌, ◌++◌, Bool, Option, None, if◌then◌else◌}
 use Rattle.dpe_box.specs.Sealed.{Opening, opened, sealed_box}
 use Rattle.dpe_core.specs.declared.state.CoreState.{CoreState}
 use Rattle.dpe_core.specs.Folds.{folds, metered}
@@ -7,7 +7,7 @@ use Rattle.dpe_core.specs.Judging.{box_tests}
 use Rattle.dpe_inputs.specs.Cdi.{seal_cdi}
 use Rattle.dpe_messages.specs.Request.{Request, SealRequest, UnsealRequest}
 use Rattle.dpe_model.specs.State.{State, Row, Machine, path, mode}
-use Rattle.dpe_model.specs.Step.{Outcome, obeyed, taken_out, again, masks_of, salt_of, IsReply}
+use Rattle.dpe_model.specs.Step.{Outcome, obeyed, taken_out, again, marked, renamed, new0, masks_of, salt_of, IsReply}
 use Rattle.dpe_model.specs.Verdict.{first_code, verdict}
 
 abbrev pub state_of : CoreState → State
@@ -35,6 +35,15 @@ spent S random row retain = record {
   next = S.next + (if retain then 1 else 0);
   made = S.made;
   rows = taken_out row S.rows ++ again S random row retain;
+}
+
+-- the row taken out, and again under the first new handle, as a default of its locality or as none
+abbrev pub rotated : State → List ℕ → Row → Bool → State
+rotated S random row default = record {
+  first = S.first;
+  next = S.next + 1;
+  made = S.made;
+  rows = taken_out row S.rows ++ marked (renamed row (new0 S random)) default ∷ [];
 }
 
 -- a command of a caller at a locality is refused or executed, as the sequential DPE does it

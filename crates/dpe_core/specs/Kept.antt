@@ -24,7 +24,7 @@ births_of node = map birth_of (tree.lineage_of node)
 
 -- a row of the table, with the lineage of a node
 abbrev pub row_with : Row → Option tree.Node → model.Row
-row_with row node = record { handle = row.handle; locality = row.locality; may_derive = row.may_derive; lineage = births_of node }
+row_with row node = record { handle = row.handle; locality = row.locality; may_derive = row.may_derive; default = row.default; lineage = births_of node }
 
 -- a row of the table, with the lineage of its place
 abbrev pub row_of : Live → Row → model.Row
@@ -34,8 +34,8 @@ abbrev pub rows_of : Live → List Row → List model.Row
 rows_of live rows = map (row_of live) rows
 
 -- the row of a child whose context is at a place
-abbrev pub row_for : Child → ℕ → Row
-row_for child place = record { handle = child.handle; locality = child.locality; may_derive = child.may_derive; place = place }
+abbrev pub row_of_child : Child → ℕ → Row
+row_of_child child place = record { handle = child.handle; locality = child.locality; may_derive = child.may_derive; place = place; default = child.default }
 
 -- how many rows have this place
 abbrev pub rows_at : List Row → ℕ → ℕ

@@ -41,3 +41,9 @@ pub const SERIALS_SPENT: u8 = 25;
 
 /// InitializeContext away from locality 0.
 pub const ROOT_LOCALITY: u8 = 27;
+
+/// No handle is named, and the caller's locality has no default context.
+pub const NO_DEFAULT: u8 = 28;
+
+/// The locality has a default context already.
+pub const DEFAULT_TAKEN: u8 = 29;

@@ -1,15 +1,17 @@
 //! The live contexts: the table of their handles beside the arena of their secrets.
-ghost use Rattle.std.specs.Prelude.{◌≡◌, ◌<◌, ◌≤◌, ◌+◌, ◌++◌, ◌∷◌, [], length, filter, remove, IfOk, IfSome, IfNone, Some, None, slice_get};
+ghost use Rattle.std.specs.Prelude.{ℕ, Bool, true, false, ◌≡◌, ◌<◌, ◌≤◌, ◌+◌, ◌++◌, ◌∷◌, [], length, filter, remove, IfOk, IfSome, IfNone, Some, None, slice_get};
 ghost use Rattle.std.specs.Option.{option_map};
 ghost use Rattle.dpe_inputs.specs.Meters.{counted};
+ghost use Rattle.dpe_messages.specs.Commands.{name_of};
 ghost use Rattle.dpe_messages.specs.Replies.{context_limit, depth_limit};
 ghost use Rattle.dpe_model.specs.State.{depth, serial};
-ghost use Rattle.dpe_model.specs.Step.{root as root_of, renamed, taken_out, family_out};
+ghost use Rattle.dpe_model.specs.Verdict.{row_for, is_taken as is_taken_by};
+ghost use Rattle.dpe_model.specs.Step.{root as root_of, renamed, marked, taken_out, family_out};
 ghost use Rattle.dpe_model.specs.LiveRows.{live_of};
-ghost use Rattle.dpe_handles.specs.Rows.{IsAscending};
+ghost use Rattle.dpe_handles.specs.Rows.{IsAscending, OneDefaultEach};
 ghost use Rattle.dpe_tree.specs.Tree.{context, live_count};
-ghost use Rattle.dpe_core.specs.Kept.{IsOwnedBut, Ends, is_outside, row_for};
-ghost use Rattle.dpe_core.specs.Contexts.{Kept, Of, IsNamedAt, IsAfter, IsUnborn, AreCdis, derived_beside, derived_from, named, with_rows};
+ghost use Rattle.dpe_core.specs.Kept.{IsOwnedBut, Ends, is_outside, row_of_child};
+ghost use Rattle.dpe_core.specs.Contexts.{Kept, Of, IsMeantAt, IsMarkable, IsAfter, IsUnborn, AreCdis, derived_beside, derived_from, with_rows};
 
 use dpe_handles::{Row, Steps, Table};
 use dpe_inputs::{Cdis, Input, Meter, first, next};
@@ -18,25 +20,27 @@ use dpe_tree::{Place, Tree};
 use std::alloc::{AllocError, Global};
 use std::marker::Model;
 
-/// What a derivation says of the child: its handle, the locality that it is bound to, and whether it may be derived
-/// from.
+/// What a derivation says of the child: its handle, the locality that it is bound to, whether it may be derived
+/// from, and whether it is the default of its locality.
 #[derive(Clone, Copy)]
 pub struct Child {
     pub handle: [u8; 16],
     pub locality: u8,
     pub may_derive: bool,
+    pub default: bool,
 }
 
 impl Child {
     // The row of the child, whose context is at a place.
     fn row_at(&self, place: Place) -> Row
-        ensures { result ≡ row_for self.now place.0 }
+        ensures { result ≡ row_of_child self.now place.0 }
     {
         Row {
             handle: self.handle,
             locality: self.locality,
             may_derive: self.may_derive,
             place: place.0,
+            default: self.default,
         }
     }
 }
@@ -64,6 +68,7 @@ impl Model for Contexts {
 fn spend(table: &mut Table, at: usize) -> Row
     requires { at < length table.old }
     ensures rising { IsAscending table.old }
+    ensures marks { OneDefaultEach table.old }
     ensures row { slice_get table.old at ≡ Some result }
     ensures rest { table.new ≡ remove table.old at }
     ensures room { length table.new < context_limit }
@@ -106,7 +111,7 @@ impl Contexts {
         })
     }
 
-    /// How many contexts live, at most 256.
+    /// How many contexts live, at most 1,024.
     pub fn len(&self) -> usize
         ensures length { result ≡ length self.now.rows }
         ensures most { result ≤ context_limit }
@@ -114,13 +119,47 @@ impl Contexts {
         self.table.len()
     }
 
-    /// The place of the context that this handle names, or `None` exactly where it names none.
-    pub fn find(&self, handle: &[u8; 16]) -> Option<usize>
-        ensures found { IfSome result (IsNamedAt self.now.rows handle.now) }
-        ensures absent { IfNone result (named self.now.rows handle.now ≡ None) }
+    // The place of the context with this handle, or `None` exactly where none has it.
+    fn named(&self, handle: &[u8; 16]) -> Option<usize>
+        ensures found { (locality : ℕ) → IfSome result (IsMeantAt self.now.rows locality (Some handle.now)) }
+        ensures absent { (locality : ℕ) → IfNone result (row_for self.now.rows locality (Some handle.now) ≡ None) }
     {
         let _rows = self.table.len();
         self.table.find(handle, &mut Steps::new())
+    }
+
+    /// The place of the default context of a locality, or `None` exactly where it has none.
+    pub fn default_at(&self, locality: u8) -> Option<usize>
+        ensures found { IfSome result (IsMeantAt self.now.rows locality None) }
+        ensures absent { IfNone result (row_for self.now.rows locality None ≡ None) }
+    {
+        let _rows = self.table.len();
+        self.table.default_at(locality)
+    }
+
+    /// The place of the context that a caller at a locality means: the one with this handle, or, without a handle, the
+    /// default of the locality. `None` exactly where there is none.
+    pub fn meant(&self, locality: u8, handle: Option<&[u8; 16]>) -> Option<usize>
+        ensures found { IfSome result (IsMeantAt self.now.rows locality (name_of handle.entry)) }
+        ensures absent { IfNone result (row_for self.now.rows locality (name_of handle.entry) ≡ None) }
+    {
+        match handle {
+            Some(handle) => self.named(handle),
+            None => self.default_at(locality),
+        }
+    }
+
+    /// Whether a locality has another default than the context at a place, or has this one and it stays beside its
+    /// child.
+    pub fn is_taken(&self, locality: u8, at: usize, stays: bool) -> bool
+        requires { at < length self.now.rows }
+        ensures { Of self.now.rows at (λ row. result ≡ is_taken_by self.now.rows stays row locality) }
+    {
+        let _rows = self.table.len();
+        match self.table.default_at(locality) {
+            None => false,
+            Some(other) => stays || other != at,
+        }
     }
 
     /// The locality that the context at a place is bound to.
@@ -156,10 +195,10 @@ impl Contexts {
         self.tree.cdis(Place(self.table.row(at).place))
     }
 
-    /// Makes the root.
-    pub fn root(&mut self, handle: [u8; 16])
+    /// Makes the root, at locality 0.
+    pub fn root(&mut self, handle: [u8; 16], default: bool)
         requires { self.old.rows ≡ [] }
-        ensures { self.new ≡ with_rows self.old (root_of handle ∷ []) }
+        ensures { self.new ≡ with_rows self.old (root_of handle default ∷ []) }
     {
         self.tree.shape();
         let place = self.tree.root(&first(&self.seed));
@@ -168,6 +207,7 @@ impl Contexts {
             locality: 0,
             may_derive: true,
             place: place.0,
+            default,
         });
     }
 
@@ -180,6 +220,22 @@ impl Contexts {
     {
         let row = spend(&mut self.table, at);
         self.table.issue(Row { handle, ..row });
+    }
+
+    /// The same, where it is then the default of its locality, or isn't.
+    pub fn rotate(&mut self, at: usize, handle: [u8; 16], default: bool)
+        requires place { at < length self.old.rows }
+        requires last { IsAfter self.old.rows (serial handle) }
+        requires marks { Of self.old.rows at (λ row. IsMarkable self.old.rows default false row.locality row) }
+        ensures { Of self.old.rows at (λ row. self.new
+            ≡ with_rows self.old (taken_out row self.old.rows ++ marked (renamed row handle) default ∷ [])) }
+    {
+        let row = spend(&mut self.table, at);
+        self.table.issue(Row {
+            handle,
+            default,
+            ..row
+        });
     }
 
     /// Ends the context at a place. Those below it stay.
@@ -216,6 +272,7 @@ impl Contexts {
         requires depth { Of self.old.rows at (λ row. depth row < depth_limit) }
         requires unborn { IsUnborn self.old.rows birth }
         requires last { IsAfter self.old.rows (serial child.now.handle) }
+        requires marks { Of self.old.rows at (IsMarkable self.old.rows child.now.default false child.now.locality) }
         ensures contexts { Of self.old.rows at (λ row. self.new
             ≡ derived_from self.old row child.now birth input.now) }
         ensures counted { M.count meter.new ≡ counted (M.count meter.old) }
@@ -245,6 +302,7 @@ impl Contexts {
         requires unborn { IsUnborn self.old.rows birth }
         requires last { IsAfter self.old.rows (serial child.now.handle) }
         requires rising { serial child.now.handle < serial parent }
+        requires marks { Of self.old.rows at (IsMarkable self.old.rows child.now.default true child.now.locality) }
         ensures contexts { Of self.old.rows at (λ row. self.new
             ≡ derived_beside self.old row child.now birth input.now parent) }
         ensures counted { M.count meter.new ≡ counted (M.count meter.old) }

@@ -1,30 +1,29 @@
 //! DeriveContext.
-ghost use Rattle.std.specs.Prelude.{◌≡◌, ◌+◌, ◌≤◌, IfOk, IfErr, Option, drop, if◌then◌else◌};
-ghost use Rattle.dpe_core.specs.Contexts.{IsNamedAt};
+ghost use Rattle.std.specs.Prelude.{◌≡◌, ◌+◌, ◌<◌, ◌≤◌, ◌&&◌, IfOk, IfErr, IfSome, Option, drop, length, if◌then◌else◌};
+ghost use Rattle.dpe_core.specs.Contexts.{IsMeantAt, Of};
 ghost use Rattle.dpe_core.specs.CoreState.{state_of, count_after, IsAccepted, Obeys};
 ghost use Rattle.dpe_core.specs.Judging.{refused_by, derive_tests};
 ghost use Rattle.dpe_core.specs.Born.{born};
 ghost use Rattle.dpe_inputs.specs.Meters.{counted};
-ghost use Rattle.dpe_messages.specs.Commands.{derive_request, configuration_of};
+ghost use Rattle.dpe_messages.specs.Commands.{name_of, derive_request, configuration_of};
 ghost use Rattle.dpe_messages.specs.Request.{derive as derive_of, hidden_or_zeros, locality_or};
 ghost use Rattle.dpe_messages.specs.Replies.{IsRefusalCode};
 ghost use Rattle.dpe_model.specs.State.{Valid};
 ghost use Rattle.dpe_model.specs.Step.{configuration_input, input_of as input_of_request};
-ghost use Rattle.dpe_model.specs.Verdict.{first_code, verdict};
+ghost use Rattle.dpe_model.specs.Verdict.{first_code, is_taken, verdict};
 
-use crate::codes::{CONTEXTS_FULL, DERIVE_NOT_ALLOWED, SERIALS_SPENT, TOO_DEEP};
+use crate::codes::{CONTEXTS_FULL, DEFAULT_TAKEN, DERIVE_NOT_ALLOWED, SERIALS_SPENT, TOO_DEEP};
 use crate::contexts::Child;
 use crate::replies::{refuse, write_derived};
 use crate::state::CoreState;
 use dpe_inputs::{Input, Meter, configuration};
 use dpe_messages::{Config, Derive};
-use dpe_model::LiveRow;
 
 /// How many contexts live at once.
-const CONTEXT_LIMIT: usize = 256;
+const CONTEXT_LIMIT: usize = 1024;
 
 /// How many derivations there are between the root and a context.
-const DEPTH_LIMIT: u8 = 16;
+const DEPTH_LIMIT: u8 = 32;
 
 fn config(config: &Config<'_>) -> [u8; 64]
     ensures { result ≡ configuration_input (configuration_of config.now) }
@@ -67,20 +66,39 @@ fn makes(retain: bool) -> u64
 }
 
 impl CoreState {
-    // The code of the first test that refuses to derive from a context.
-    fn derive_refusal(&self, parent: &LiveRow, retain: bool) -> Option<u8>
-        ensures { result ≡ first_code (derive_tests (state_of self.now) retain parent.now) }
+    // Whether the child is to be the default of a locality that has one already.
+    fn is_child_taken(&self, at: usize, locality: u8, derive: &Derive<'_>) -> bool
+        requires { at < length self.now.contexts.rows }
+        ensures { Of self.now.contexts.rows at (λ row. result ≡ derive.now.child_default
+            && is_taken self.now.contexts.rows derive.now.retain row (locality_or locality (derive_request derive.now))) }
     {
+        derive.child_default
+            && self
+                .contexts
+                .is_taken(target(locality, derive), at, derive.retain)
+    }
+
+    // The code of the first test that refuses to derive from the context at a place.
+    fn derive_refusal(&self, at: usize, locality: u8, derive: &Derive<'_>) -> Option<u8>
+        requires { at < length self.now.contexts.rows }
+        ensures code { Of self.now.contexts.rows at (λ row. result
+            ≡ first_code (derive_tests (state_of self.now) locality (derive_request derive.now) row)) }
+        ensures coded { IfSome result IsRefusalCode }
+    {
+        let parent = self.contexts.row(at);
         if !parent.may_derive {
             return Some(DERIVE_NOT_ALLOWED);
         }
         if parent.depth == DEPTH_LIMIT {
             return Some(TOO_DEEP);
         }
-        if retain && self.contexts.len() == CONTEXT_LIMIT {
+        if derive.retain && self.contexts.len() == CONTEXT_LIMIT {
             return Some(CONTEXTS_FULL);
         }
-        if makes(retain) > u64::MAX - self.next {
+        if self.is_child_taken(at, locality, derive) {
+            return Some(DEFAULT_TAKEN);
+        }
+        if makes(derive.retain) > u64::MAX - self.next {
             return Some(SERIALS_SPENT);
         }
         None
@@ -88,14 +106,14 @@ impl CoreState {
 
     // The place of the parent, or the code of the first test that refuses.
     fn derivable(&self, locality: u8, derive: &Derive<'_>) -> Result<usize, u8>
-        ensures place { IfOk result (IsNamedAt self.now.contexts.rows derive.now.handle.now) }
+        ensures place { IfOk result (IsMeantAt self.now.contexts.rows locality (name_of derive.now.handle)) }
         ensures code { refused_by result
             ≡ verdict self.now.contexts.seed (state_of self.now) locality (derive_of (derive_request derive.now)) }
         ensures coded { IfErr result IsRefusalCode }
     {
         match self.owned(locality, derive.handle) {
             Err(code) => Err(code),
-            Ok(at) => match self.derive_refusal(&self.contexts.row(at), derive.retain) {
+            Ok(at) => match self.derive_refusal(at, locality, derive) {
                 Some(code) => Err(code),
                 None => Ok(at),
             },
@@ -109,6 +127,7 @@ impl CoreState {
             handle: self.first_new(random),
             locality: target(locality, derive),
             may_derive: derive.may_derive,
+            default: derive.child_default,
         }
     }
 
@@ -123,7 +142,7 @@ impl CoreState {
         meter: &mut M,
     ) -> usize
         requires valid { Valid (state_of self.old) }
-        requires named { IsNamedAt self.old.contexts.rows derive.now.handle.now at }
+        requires meant { IsMeantAt self.old.contexts.rows locality (name_of derive.now.handle) at }
         requires accepted { IsAccepted self.old locality (derive_of (derive_request derive.now)) }
         ensures obeys { Obeys self.old self.new locality random.now (derive_of (derive_request derive.now)) out.new result }
         ensures behind { drop result out.new ≡ drop result out.old }

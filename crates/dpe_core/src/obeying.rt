@@ -1,16 +1,17 @@
 //! GetProfile, InitializeContext, RotateContextHandle and DestroyContext, and the choice between all commands.
-ghost use Rattle.std.specs.Prelude.{◌≡◌, ◌+◌, ◌<◌, ◌≤◌, ℕ, List, IfSome, drop, length, true, if◌then◌else◌};
-ghost use Rattle.dpe_core.specs.Contexts.{Of};
-ghost use Rattle.dpe_core.specs.CoreState.{state_of, count_after, spent, Becomes, Obeys};
-ghost use Rattle.dpe_messages.specs.Commands.{request_of};
+ghost use Rattle.std.specs.Prelude.{◌≡◌, ◌+◌, ◌<◌, ◌≤◌, ℕ, Bool, List, IfErr, IfOk, IfSome, drop, length, true, false, if◌then◌else◌};
+ghost use Rattle.dpe_core.specs.Contexts.{IsMarkable, IsMeantAt, Of};
+ghost use Rattle.dpe_core.specs.CoreState.{state_of, count_after, rotated, spent, Becomes, Obeys};
+ghost use Rattle.dpe_core.specs.Judging.{refused_by, rotate_tests};
+ghost use Rattle.dpe_messages.specs.Commands.{name_of, request_of};
 ghost use Rattle.dpe_messages.specs.Ranges.{InRanges};
 ghost use Rattle.dpe_messages.specs.Replies.{IsRefusalCode};
 ghost use Rattle.dpe_messages.specs.Request.{get_profile, initialize as initialize_of, rotate as rotate_of, destroy as destroy_of};
 ghost use Rattle.dpe_model.specs.State.{Valid, last_serial};
 ghost use Rattle.dpe_model.specs.Step.{new0, new_if};
-ghost use Rattle.dpe_model.specs.Verdict.{verdict};
+ghost use Rattle.dpe_model.specs.Verdict.{first_code, verdict};
 
-use crate::codes::{ROOT_LOCALITY, SEED_LOCKED, SERIALS_SPENT};
+use crate::codes::{DEFAULT_TAKEN, ROOT_LOCALITY, SEED_LOCKED, SERIALS_SPENT};
 use crate::replies::{refuse, write_done, write_handle, write_profile};
 use crate::state::CoreState;
 use dpe_inputs::Meter;
@@ -49,6 +50,22 @@ impl CoreState {
         None
     }
 
+    // Gives the context at a place the first new handle; it is then the default of its locality, or isn't.
+    fn turn(&mut self, at: usize, random: &[u8; 32], default: bool) -> [u8; 16]
+        requires valid { Valid (state_of self.old) }
+        requires place { at < length self.old.contexts.rows }
+        requires serials { self.old.next + 1 ≤ last_serial }
+        requires marks { Of self.old.contexts.rows at (λ row. IsMarkable self.old.contexts.rows default false row.locality row) }
+        ensures handle { result ≡ new0 (state_of self.old) random.now }
+        ensures state { Of self.old.contexts.rows at (λ row. Becomes self.old self.new
+            (rotated (state_of self.old) random.now row default)) }
+    {
+        let handle = self.first_new(random);
+        self.contexts.rotate(at, handle, default);
+        self.next += 1;
+        handle
+    }
+
     fn get_profile(&self, out: &mut [u8; 4096]) -> usize
         requires { Valid (state_of self.now) }
         ensures obeys { (locality : ℕ) (random : List ℕ)
@@ -60,7 +77,8 @@ impl CoreState {
 
     // The code of the first test that refuses InitializeContext.
     fn initialize_refusal(&self, locality: u8) -> Option<u8>
-        ensures code { result ≡ verdict self.now.contexts.seed (state_of self.now) locality initialize_of }
+        ensures code { (default : Bool)
+            → result ≡ verdict self.now.contexts.seed (state_of self.now) locality (initialize_of default) }
         ensures coded { IfSome result IsRefusalCode }
     {
         if locality != 0 {
@@ -75,36 +93,77 @@ impl CoreState {
         None
     }
 
-    fn initialize(&mut self, locality: u8, random: &[u8; 32], out: &mut [u8; 4096]) -> usize
+    fn initialize(
+        &mut self,
+        locality: u8,
+        random: &[u8; 32],
+        default: bool,
+        out: &mut [u8; 4096],
+    ) -> usize
         requires { Valid (state_of self.old) }
-        ensures obeys { Obeys self.old self.new locality random.now initialize_of out.new result }
+        ensures obeys { Obeys self.old self.new locality random.now (initialize_of default) out.new result }
         ensures behind { drop result out.new ≡ drop result out.old }
     {
         if let Some(code) = self.initialize_refusal(locality) {
             return refuse(code, out);
         }
         let handle = self.first_new(random);
-        self.contexts.root(handle);
+        self.contexts.root(handle, default);
         self.made = true;
         self.next += 1;
         write_handle(handle, out)
+    }
+
+    // The code of the first test that refuses to rotate the context at a place of this locality.
+    fn rotate_refusal(&self, at: usize, locality: u8, default: bool) -> Option<u8>
+        requires place { at < length self.now.contexts.rows }
+        requires owner { Of self.now.contexts.rows at (λ row. row.locality ≡ locality) }
+        ensures code { Of self.now.contexts.rows at (λ row. result
+            ≡ first_code (rotate_tests (state_of self.now) default row)) }
+        ensures coded { IfSome result IsRefusalCode }
+    {
+        if default && self.contexts.is_taken(locality, at, false) {
+            return Some(DEFAULT_TAKEN);
+        }
+        if self.next == u64::MAX {
+            return Some(SERIALS_SPENT);
+        }
+        None
+    }
+
+    // The place of the context to rotate, or the code of the first test that refuses.
+    fn rotatable(&self, locality: u8, handle: Option<&[u8; 16]>, default: bool) -> Result<usize, u8>
+        ensures place { IfOk result (IsMeantAt self.now.contexts.rows locality (name_of handle.entry)) }
+        ensures code { refused_by result ≡ verdict self.now.contexts.seed (state_of self.now) locality
+            (rotate_of (name_of handle.entry) default) }
+        ensures coded { IfErr result IsRefusalCode }
+    {
+        match self.owned(locality, handle) {
+            Err(code) => Err(code),
+            Ok(at) => match self.rotate_refusal(at, locality, default) {
+                Some(code) => Err(code),
+                None => Ok(at),
+            },
+        }
     }
 
     fn rotate(
         &mut self,
         locality: u8,
         random: &[u8; 32],
-        handle: &[u8; 16],
+        handle: Option<&[u8; 16]>,
+        default: bool,
         out: &mut [u8; 4096],
     ) -> usize
         requires { Valid (state_of self.old) }
-        ensures obeys { Obeys self.old self.new locality random.now (rotate_of handle.now) out.new result }
+        ensures obeys { Obeys self.old self.new locality random.now
+            (rotate_of (name_of handle.entry) default) out.new result }
         ensures behind { drop result out.new ≡ drop result out.old }
     {
-        match self.usable(locality, handle, 1) {
+        match self.rotatable(locality, handle, default) {
             Err(code) => refuse(code, out),
             Ok(at) => {
-                let handle = self.renew(at, random);
+                let handle = self.turn(at, random, default);
                 write_handle(handle, out)
             }
         }
@@ -113,13 +172,13 @@ impl CoreState {
     fn destroy(
         &mut self,
         locality: u8,
-        handle: &[u8; 16],
+        handle: Option<&[u8; 16]>,
         recursive: bool,
         out: &mut [u8; 4096],
     ) -> usize
         requires { Valid (state_of self.old) }
         ensures obeys { (random : List ℕ)
-            → Obeys self.old self.new locality random (destroy_of handle.now recursive) out.new result }
+            → Obeys self.old self.new locality random (destroy_of (name_of handle.entry) recursive) out.new result }
         ensures behind { drop result out.new ≡ drop result out.old }
     {
         match self.owned(locality, handle) {
@@ -153,14 +212,16 @@ impl CoreState {
     {
         match command {
             Command::GetProfile => self.get_profile(out),
-            Command::Initialize => self.initialize(locality, random, out),
+            Command::Initialize { default } => self.initialize(locality, random, *default, out),
             Command::Derive(derive) => self.derive(locality, random, derive, out, meter),
             Command::Sign(sign) => self.sign(locality, random, sign, out),
             Command::Seal(request) => self.seal(locality, random, request, out),
             Command::Unseal(request) => self.unseal(locality, random, request, out),
-            Command::Rotate(handle) => self.rotate(locality, random, handle, out),
+            Command::Rotate { handle, default } => self.rotate(
+                locality, random, *handle, *default, out,
+            ),
             Command::Destroy { handle, recursive } => self.destroy(
-                locality, handle, *recursive, out,
+                locality, *handle, *recursive, out,
             ),
         }
     }

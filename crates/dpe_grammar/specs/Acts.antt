@@ -1,5 +1,6 @@
 -- The commands of a script.
 use Rattle.std.specs.Prelude.{ℕ, Bool, List, Option, option_map, IfSome, ◌≤◌, length}
+use Rattle.std.specs.Borrow.{Bor}
 use Rattle.dpe_messages.specs.Request.{Configuration, inline, descriptor}
 use Rattle.dpe_grammar.specs.Values.{value_of}
 use Rattle.dpe_grammar.specs.declared.act.Config.{Config}
@@ -11,9 +12,10 @@ use Rattle.dpe_grammar.specs.declared.act.Unseal as code_unseal
 use Rattle.dpe_grammar.specs.declared.act.Act as code
 use Rattle.dpe_grammar.specs.declared.act.Act.TheVariants as acts
 
--- the name that is used, the new name, the arguments, and the name that keeps the parent where it is retained
+-- the name that is used, none where the handle is left out, the new name, the arguments, and the name that keeps the
+-- parent where it is retained
 pub record DeriveLine : Type 0 where
-  pub old : List ℕ
+  pub old : Option (List ℕ)
   pub fresh : List ℕ
   pub code : List ℕ
   pub config : Configuration
@@ -23,15 +25,16 @@ pub record DeriveLine : Type 0 where
   pub keep : Option (List ℕ)
   pub locality : Option ℕ
   pub is_final : Bool
+  pub is_default : Bool
 
 pub record SignLine : Type 0 where
-  pub old : List ℕ
+  pub old : Option (List ℕ)
   pub message : List ℕ
   pub label : List ℕ
   pub keep : Option (List ℕ)
 
 pub record SealLine : Type 0 where
-  pub old : List ℕ
+  pub old : Option (List ℕ)
   pub sealed : List ℕ
   pub plain : List ℕ
   pub label : List ℕ
@@ -40,23 +43,28 @@ pub record SealLine : Type 0 where
   pub keep : Option (List ℕ)
 
 pub record UnsealLine : Type 0 where
-  pub old : List ℕ
+  pub old : Option (List ℕ)
   pub sealed : List ℕ
   pub label : List ℕ
   pub keep : Option (List ℕ)
 
+-- The truth of `initialize` and `rotate` is whether the context is to be its locality's default.
 pub data Act : Type 0 where
   profile : Act
-  initialize : List ℕ → Act
+  initialize : List ℕ → Bool → Act
   derive : DeriveLine → Act
   sign : SignLine → Act
   seal : SealLine → Act
   unseal : UnsealLine → Act
-  rotate : List ℕ → List ℕ → Act
-  destroy : List ℕ → Bool → Act
+  rotate : Option (List ℕ) → List ℕ → Bool → Act
+  destroy : Option (List ℕ) → Bool → Act
   raw : List ℕ → Act
 
 -- ## The commands as the code has them
+
+-- a name that may be left out
+abbrev pub name_if : Option (Bor (List ℕ)) → Option (List ℕ)
+name_if name = option_map (λ t. t.now) name
 
 abbrev pub config_of : Config → Configuration
 config_of (configs.Inline b) = inline b
@@ -64,54 +72,55 @@ config_of (configs.Descriptor v) = descriptor (value_of v)
 
 abbrev pub derive_line : code_derive.Derive → DeriveLine
 derive_line d = record {
-  old = d.old.now;
+  old = name_if d.old;
   fresh = d.fresh.now;
   code = d.code;
   config = config_of d.config;
   authority = d.authority;
   mode = d.mode;
   hidden = d.hidden;
-  keep = option_map (λ t. t.now) d.keep;
+  keep = name_if d.keep;
   locality = d.locality;
   is_final = d.is_final;
+  is_default = d.is_default;
 }
 
 abbrev pub sign_line : code_sign.Sign → SignLine
 sign_line s = record {
-  old = s.old.now;
+  old = name_if s.old;
   message = value_of s.message;
   label = value_of s.label;
-  keep = option_map (λ t. t.now) s.keep;
+  keep = name_if s.keep;
 }
 
 abbrev pub seal_line : code_seal.Seal → SealLine
 seal_line s = record {
-  old = s.old.now;
+  old = name_if s.old;
   sealed = s.sealed.now;
   plain = value_of s.plain;
   label = value_of s.label;
   localities = s.localities;
   modes = s.modes;
-  keep = option_map (λ t. t.now) s.keep;
+  keep = name_if s.keep;
 }
 
 abbrev pub unseal_line : code_unseal.Unseal → UnsealLine
 unseal_line u = record {
-  old = u.old.now;
+  old = name_if u.old;
   sealed = u.sealed.now;
   label = value_of u.label;
-  keep = option_map (λ t. t.now) u.keep;
+  keep = name_if u.keep;
 }
 
 abbrev pub act_of : code.Act → Act
 act_of acts.Profile = profile
-act_of (acts.Initialize fresh) = initialize fresh.now
+act_of (acts.Initialize fresh is_default) = initialize fresh.now is_default
 act_of (acts.Derive d) = derive (derive_line d)
 act_of (acts.Sign s) = sign (sign_line s)
 act_of (acts.Seal s) = seal (seal_line s)
 act_of (acts.Unseal u) = unseal (unseal_line u)
-act_of (acts.Rotate old fresh) = rotate old.now fresh.now
-act_of (acts.Destroy old recursive) = destroy old.now recursive
+act_of (acts.Rotate old fresh is_default) = rotate (name_if old) fresh.now is_default
+act_of (acts.Destroy old recursive) = destroy (name_if old) recursive
 act_of (acts.Raw v) = raw (value_of v)
 
 -- ## Ranges that the types don't keep

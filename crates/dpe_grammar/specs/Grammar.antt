@@ -3,14 +3,14 @@ use Rattle.std.specs.Prelude.{ℕ, ◌==◌, Bool, true, false, ◌&&◌, nat_le
 use Rattle.dpe_cbor.specs.Decoding.{◌>>=◌}
 use Rattle.dpe_messages.specs.Request.{Configuration, inline, descriptor}
 use Rattle.dpe_grammar.specs.Values.{name_in, number_in}
-use Rattle.dpe_grammar.specs.Options.{value_at, are_known, are_single, bytes_in, bytes_at, number_at, or_default, optional, empty_in}
+use Rattle.dpe_grammar.specs.Options.{value_at, are_known, are_single, bytes_in, bytes_at, number_at, or_default, optional, flag_at}
 use Rattle.dpe_grammar.specs.declared.grammar.Asking as code
 use Rattle.dpe_grammar.specs.Acts.{DeriveLine, act_of, Act, profile, initialize, derive, sign, seal, unseal, rotate, destroy, raw}
 
 -- the keys of each command
 abbrev pub derive_keys : List (List ℕ)
 derive_keys =
-    codes "code=" ∷ codes "config=" ∷ codes "descriptor=" ∷ codes "authority=" ∷ codes "mode=" ∷ codes "hidden=" ∷ codes "keep=" ∷ codes "locality=" ∷ codes "final" ∷ []
+    codes "code=" ∷ codes "config=" ∷ codes "descriptor=" ∷ codes "authority=" ∷ codes "mode=" ∷ codes "hidden=" ∷ codes "keep=" ∷ codes "locality=" ∷ codes "final" ∷ codes "default" ∷ []
 
 abbrev pub sign_keys : List (List ℕ)
 sign_keys = codes "message=" ∷ codes "label=" ∷ codes "keep=" ∷ []
@@ -43,10 +43,28 @@ abbrev pub first_name : List (List ℕ) → Option (List ℕ × List (List ℕ))
 first_name [] = None
 first_name (word ∷ words) = option_map (with_words words) (name_in word)
 
+-- the name of the handle that is used, or a dash, which is no name and leaves the handle out
+abbrev pub old_in : List ℕ → Option (Option (List ℕ))
+old_in word = if bytes_eq word (codes "-") then Some None else option_map Some (name_in word)
+
+-- that, and the words behind it
+abbrev pub with_old : List (List ℕ) → Option (List ℕ) → Option (List ℕ) × List (List ℕ)
+with_old words old = (old, words)
+
+abbrev pub first_old : List (List ℕ) → Option (Option (List ℕ) × List (List ℕ))
+first_old [] = None
+first_old (word ∷ words) = option_map (with_old words) (old_in word)
+
 -- the command, where no word is left
 abbrev pub at_end : Act → List (List ℕ) → Option Act
 at_end act [] = Some act
 at_end act (word ∷ words) = None
+
+-- whether this word stands at the end: nothing more, or the word alone
+abbrev pub last_word : List ℕ → List (List ℕ) → Option Bool
+last_word flag [] = Some false
+last_word flag (word ∷ []) = if bytes_eq word flag then Some true else None
+last_word flag (word ∷ other ∷ words) = None
 
 -- the value, where the words begin with these keys, each at most once
 abbrev pub only : {A : Type 0} → List (List ℕ) → List (List ℕ) → A → Option A
@@ -63,10 +81,11 @@ keep_at words = optional name_in (value_at (codes "keep=") words)
 abbrev pub initialize_in : List (List ℕ) → Option Act
 initialize_in words = do
   fresh ← first_name words
-  at_end (initialize fresh.0) fresh.1
+  is_default ← last_word (codes "default") fresh.1
+  Some (initialize fresh.0 is_default)
 
 -- the arguments of `derive`, behind its two names
-abbrev pub derive_options_in : List ℕ → List ℕ → List (List ℕ) → Option DeriveLine
+abbrev pub derive_options_in : Option (List ℕ) → List ℕ → List (List ℕ) → Option DeriveLine
 derive_options_in old fresh words = do
   code ← bytes_at (codes "code=") 64 64 words
   config ← config_at words
@@ -75,7 +94,8 @@ derive_options_in old fresh words = do
   hidden ← optional (bytes_in 64 64) (value_at (codes "hidden=") words)
   keep ← keep_at words
   locality ← optional (number_in 7) (value_at (codes "locality=") words)
-  is_final ← or_default false empty_in (value_at (codes "final") words)
+  is_final ← flag_at (codes "final") words
+  is_default ← flag_at (codes "default") words
   only derive_keys words (record {
     old = old;
     fresh = fresh;
@@ -87,17 +107,18 @@ derive_options_in old fresh words = do
     keep = keep;
     locality = locality;
     is_final = is_final;
+    is_default = is_default;
   })
 
 abbrev pub derive_in : List (List ℕ) → Option Act
 derive_in words = do
-  old ← first_name words
+  old ← first_old words
   fresh ← first_name old.1
   option_map derive (derive_options_in old.0 fresh.0 fresh.1)
 
 abbrev pub sign_in : List (List ℕ) → Option Act
 sign_in words = do
-  old ← first_name words
+  old ← first_old words
   message ← bytes_at (codes "message=") 0 2048 old.1
   label ← label_at old.1
   keep ← keep_at old.1
@@ -105,7 +126,7 @@ sign_in words = do
 
 abbrev pub seal_in : List (List ℕ) → Option Act
 seal_in words = do
-  old ← first_name words
+  old ← first_old words
   sealed ← first_name old.1
   plain ← bytes_at (codes "plain=") 0 2048 sealed.1
   label ← label_at sealed.1
@@ -124,7 +145,7 @@ seal_in words = do
 
 abbrev pub unseal_in : List (List ℕ) → Option Act
 unseal_in words = do
-  old ← first_name words
+  old ← first_old words
   sealed ← first_name old.1
   label ← label_at sealed.1
   keep ← keep_at sealed.1
@@ -132,20 +153,15 @@ unseal_in words = do
 
 abbrev pub rotate_in : List (List ℕ) → Option Act
 rotate_in words = do
-  old ← first_name words
+  old ← first_old words
   fresh ← first_name old.1
-  at_end (rotate old.0 fresh.0) fresh.1
-
--- nothing more, or the word `recursive` alone
-abbrev pub recursive_in : List (List ℕ) → Option Bool
-recursive_in [] = Some false
-recursive_in (word ∷ []) = if bytes_eq word (codes "recursive") then Some true else None
-recursive_in (word ∷ other ∷ words) = None
+  is_default ← last_word (codes "default") fresh.1
+  Some (rotate old.0 fresh.0 is_default)
 
 abbrev pub destroy_in : List (List ℕ) → Option Act
 destroy_in words = do
-  old ← first_name words
-  recursive ← recursive_in old.1
+  old ← first_old words
+  recursive ← last_word (codes "recursive") old.1
   Some (destroy old.0 recursive)
 
 abbrev pub raw_in : List (List ℕ) → Option Act

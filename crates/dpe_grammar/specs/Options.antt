@@ -1,5 +1,5 @@
 -- The words of a line behind its names: each begins with a key, and gives a value behind it.
-use Rattle.std.specs.Prelude.{ℕ, ◌==◌, Bool, true, nat_le, List, [], ◌∷◌, length, drop, Option, Some, None, if◌then◌else◌, option_map, option_and_then, count_by}
+use Rattle.std.specs.Prelude.{ℕ, ◌==◌, Bool, true, false, nat_le, List, [], ◌∷◌, length, drop, Option, Some, None, if◌then◌else◌, option_map, option_and_then, count_by}
 use Rattle.std.specs.List.{list_all, list_any, starts_with}
 use Rattle.dpe_grammar.specs.Values.{bytes_value, sized, number_in}
 
@@ -45,3 +45,7 @@ optional read (Some text) = option_map Some (read text)
 -- a word with nothing behind its key
 abbrev pub empty_in : List ℕ → Option Bool
 empty_in text = if length text == 0 then Some true else None
+
+-- whether a word that has no value is there
+abbrev pub flag_at : List ℕ → List (List ℕ) → Option Bool
+flag_at key words = or_default false empty_in (value_at key words)

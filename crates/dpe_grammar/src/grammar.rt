@@ -4,8 +4,8 @@ ghost use Rattle.std.specs.Option.{option_map};
 ghost use Rattle.dpe_messages.specs.Request.{inline, descriptor};
 ghost use Rattle.dpe_grammar.specs.Values.{texts, value_of};
 ghost use Rattle.dpe_grammar.specs.Options.{bytes_in as bytes_within};
-ghost use Rattle.dpe_grammar.specs.Acts.{act_of, config_of, derive_line, IsInRange, IsDeriveInRange, IsShort, profile};
-ghost use Rattle.dpe_grammar.specs.Grammar.{first_name as first_name_of, config_at as configuration_at, derive_in, derive_options_in, sign_in, seal_in, unseal_in, rotate_in, initialize_in, destroy_in, recursive_in, raw_in, at_end, act_named, link_in, asking_in, asking_of, label_at as label_of, keep_at as keep_of, has_only as are_only};
+ghost use Rattle.dpe_grammar.specs.Acts.{act_of, config_of, derive_line, name_if, IsInRange, IsDeriveInRange, IsShort, profile};
+ghost use Rattle.dpe_grammar.specs.Grammar.{first_name as first_name_of, old_in, first_old as first_old_of, last_word as word_last, config_at as configuration_at, derive_in, derive_options_in, sign_in, seal_in, unseal_in, rotate_in, initialize_in, destroy_in, raw_in, at_end, act_named, link_in, asking_in, asking_of, label_at as label_of, keep_at as keep_of, has_only as are_only};
 
 use crate::act::{Act, Config, Derive, Seal, Sign, Unseal};
 use crate::options::{
@@ -33,7 +33,7 @@ const ALL_LOCALITIES: u8 = 255;
 const ALL_MODES: u8 = 15;
 
 /// The keys of `derive`.
-const DERIVE_KEYS: [&[u8]; 9] = [
+const DERIVE_KEYS: [&[u8]; 10] = [
     b"code=",
     b"config=",
     b"descriptor=",
@@ -43,6 +43,7 @@ const DERIVE_KEYS: [&[u8]; 9] = [
     b"keep=",
     b"locality=",
     b"final",
+    b"default",
 ];
 
 /// A command and the number of the link that it is for.
@@ -72,6 +73,39 @@ fn first_name<'a, 'w>(words: &'w [&'a [u8]]) -> Option<(&'a [u8], &'w [&'a [u8]]
 {
     let (word, others) = words.split_first()?;
     Some((parse_name(word)?, others))
+}
+
+// The name of the handle that is used, or a dash for none.
+fn parse_old<'a>(word: &'a [u8]) -> Option<Option<&'a [u8]>>
+    ensures { option_map name_if result ≡ old_in word.now }
+{
+    if is_word(word, b"-") {
+        return Some(None);
+    }
+    Some(Some(parse_name(word)?))
+}
+
+// That, and the words behind it.
+fn first_old<'a, 'w>(words: &'w [&'a [u8]]) -> Option<(Option<&'a [u8]>, &'w [&'a [u8]])>
+    ensures { option_map (λ p. (name_if p.0, texts p.1.now)) result ≡ first_old_of (texts words.now) }
+{
+    let (word, others) = words.split_first()?;
+    Some((parse_old(word)?, others))
+}
+
+// Whether this word stands at the end: nothing more, or the word alone.
+fn last_word(words: &[&[u8]], flag: &[u8]) -> Option<bool>
+    ensures { result ≡ word_last flag.now (texts words.now) }
+{
+    match words.split_first() {
+        None => Some(false),
+        Some((word, others)) => {
+            if others.is_empty() && is_word(word, flag) {
+                return Some(true);
+            }
+            None
+        }
+    }
 }
 
 fn inline_config<'a>(text: &'a [u8]) -> Option<Config<'a>>
@@ -129,17 +163,15 @@ fn read_initialize<'a>(words: &[&'a [u8]]) -> Option<Act<'a>>
     ensures range { IfSome result (λ act. IsInRange (act_of act)) }
 {
     let (fresh, others) = first_name(words)?;
-    if others.is_empty() {
-        return Some(Act::Initialize { fresh });
-    }
-    None
+    let is_default = last_word(others, b"default")?;
+    Some(Act::Initialize { fresh, is_default })
 }
 
 fn read_derive<'a>(words: &[&'a [u8]]) -> Option<Act<'a>>
     ensures act { option_map act_of result ≡ derive_in (texts words.now) }
     ensures range { IfSome result (λ act. IsInRange (act_of act)) }
 {
-    let (old, others) = first_name(words)?;
+    let (old, others) = first_old(words)?;
     let (fresh, options) = first_name(others)?;
     match derive_options(old, fresh, options) {
         Some(derive) => Some(Act::Derive(derive)),
@@ -148,8 +180,12 @@ fn read_derive<'a>(words: &[&'a [u8]]) -> Option<Act<'a>>
 }
 
 // The arguments of `derive`, behind its two names.
-fn derive_options<'a>(old: &'a [u8], fresh: &'a [u8], options: &[&'a [u8]]) -> Option<Derive<'a>>
-    ensures act { option_map derive_line result ≡ derive_options_in old.now fresh.now (texts options.now) }
+fn derive_options<'a>(
+    old: Option<&'a [u8]>,
+    fresh: &'a [u8],
+    options: &[&'a [u8]],
+) -> Option<Derive<'a>>
+    ensures act { option_map derive_line result ≡ derive_options_in (name_if old.entry) fresh.now (texts options.now) }
     ensures range { IfSome result (λ d. IsDeriveInRange (derive_line d)) }
 {
     let code = input_at(options, b"code=")?;
@@ -160,6 +196,7 @@ fn derive_options<'a>(old: &'a [u8], fresh: &'a [u8], options: &[&'a [u8]]) -> O
     let keep = keep_at(options)?;
     let locality = optional_number(options, b"locality=", MAX_LOCALITY)?;
     let is_final = flag(options, b"final")?;
+    let is_default = flag(options, b"default")?;
     if !has_only(options, &DERIVE_KEYS) {
         return None;
     }
@@ -174,6 +211,7 @@ fn derive_options<'a>(old: &'a [u8], fresh: &'a [u8], options: &[&'a [u8]]) -> O
         keep,
         locality,
         is_final,
+        is_default,
     })
 }
 
@@ -181,7 +219,7 @@ fn read_sign<'a>(words: &[&'a [u8]]) -> Option<Act<'a>>
     ensures act { option_map act_of result ≡ sign_in (texts words.now) }
     ensures range { IfSome result (λ act. IsInRange (act_of act)) }
 {
-    let (old, options) = first_name(words)?;
+    let (old, options) = first_old(words)?;
     let message = bytes_at(options, b"message=", 0, MAX_MESSAGE)?;
     let label = label_at(options)?;
     let keep = keep_at(options)?;
@@ -200,7 +238,7 @@ fn read_seal<'a>(words: &[&'a [u8]]) -> Option<Act<'a>>
     ensures act { option_map act_of result ≡ seal_in (texts words.now) }
     ensures range { IfSome result (λ act. IsInRange (act_of act)) }
 {
-    let (old, others) = first_name(words)?;
+    let (old, others) = first_old(words)?;
     let (sealed, options) = first_name(others)?;
     let plain = bytes_at(options, b"plain=", 0, MAX_MESSAGE)?;
     let label = label_at(options)?;
@@ -228,7 +266,7 @@ fn read_unseal<'a>(words: &[&'a [u8]]) -> Option<Act<'a>>
     ensures act { option_map act_of result ≡ unseal_in (texts words.now) }
     ensures range { IfSome result (λ act. IsInRange (act_of act)) }
 {
-    let (old, others) = first_name(words)?;
+    let (old, others) = first_old(words)?;
     let (sealed, options) = first_name(others)?;
     let label = label_at(options)?;
     let keep = keep_at(options)?;
@@ -247,35 +285,22 @@ fn read_rotate<'a>(words: &[&'a [u8]]) -> Option<Act<'a>>
     ensures act { option_map act_of result ≡ rotate_in (texts words.now) }
     ensures range { IfSome result (λ act. IsInRange (act_of act)) }
 {
-    let (old, others) = first_name(words)?;
-    let (fresh, rest) = first_name(others)?;
-    if rest.is_empty() {
-        return Some(Act::Rotate { old, fresh });
-    }
-    None
-}
-
-// Nothing more, or the word `recursive` alone.
-fn read_recursive(words: &[&[u8]]) -> Option<bool>
-    ensures { result ≡ recursive_in (texts words.now) }
-{
-    match words.split_first() {
-        None => Some(false),
-        Some((word, others)) => {
-            if others.is_empty() && is_word(word, b"recursive") {
-                return Some(true);
-            }
-            None
-        }
-    }
+    let (old, others) = first_old(words)?;
+    let (fresh, others) = first_name(others)?;
+    let is_default = last_word(others, b"default")?;
+    Some(Act::Rotate {
+        old,
+        fresh,
+        is_default,
+    })
 }
 
 fn read_destroy<'a>(words: &[&'a [u8]]) -> Option<Act<'a>>
     ensures act { option_map act_of result ≡ destroy_in (texts words.now) }
     ensures range { IfSome result (λ act. IsInRange (act_of act)) }
 {
-    let (old, others) = first_name(words)?;
-    let recursive = read_recursive(others)?;
+    let (old, others) = first_old(words)?;
+    let recursive = last_word(others, b"recursive")?;
     Some(Act::Destroy { old, recursive })
 }
 

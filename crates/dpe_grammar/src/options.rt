@@ -1,9 +1,9 @@
 //! The words of a line behind its names: each begins with a key, and gives a value behind it.
-ghost use Rattle.std.specs.Prelude.{◌≡◌, ◌≤◌, ℕ, IfSome, length, Some, None, count_by, [], Bool, false};
+ghost use Rattle.std.specs.Prelude.{◌≡◌, ◌≤◌, ℕ, IfSome, length, Some, None, count_by, []};
 ghost use Rattle.std.specs.Option.{option_map};
 ghost use Rattle.std.specs.List.{list_any};
 ghost use Rattle.dpe_grammar.specs.Values.{texts, value_of, HasSize, number_in, name_in};
-ghost use Rattle.dpe_grammar.specs.Options.{has_key, value_at as value_behind, are_known as known_words, are_single as single_words, bytes_in as sized_bytes, bytes_at as bytes_behind, number_at as number_behind, or_default, optional, empty_in};
+ghost use Rattle.dpe_grammar.specs.Options.{has_key, value_at as value_behind, are_known as known_words, are_single as single_words, bytes_in as sized_bytes, bytes_at as bytes_behind, number_at as number_behind, or_default, optional, flag_at as flag_behind};
 
 use crate::value::{MAX_BYTES, Value, bytes_in, decode, parse_name, parse_up_to};
 
@@ -155,7 +155,7 @@ pub fn optional_name<'a>(words: &[&'a [u8]], key: &[u8]) -> Option<Option<&'a [u
 
 /// Whether a word that has no value is there.
 pub fn flag(words: &[&[u8]], key: &[u8]) -> Option<bool>
-    ensures { result ≡ or_default false empty_in (value_behind key.now (texts words.now)) }
+    ensures { result ≡ flag_behind key.now (texts words.now) }
 {
     match value_at(words, key) {
         None => Some(false),

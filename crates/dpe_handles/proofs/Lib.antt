@@ -1,2 +1,3 @@
+pub mod Defaults
 pub mod Searching
 pub mod Slots

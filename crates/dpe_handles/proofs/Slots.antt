@@ -1,14 +1,24 @@
 -- Rows that stay in their slots, and the list of the slots' numbers.
-use Rattle.std.proofs.Common.{◌≡◌, ◌≢◌, ℕ, ◌+◌, ◌<◌, ◌≤◌, List, [], ◌∷◌, ◌++◌, AllPairs, All, length, get_or, set, take, drop, map, remove, append_assoc, refl, ap, ap₂, sym, subst, ◌∙◌, zero, suc, length-append, replicate, arith}
+use Rattle.std.proofs.Common.{◌≡◌, ◌≢◌, ℕ, ◌+◌, ◌<◌, ◌≤◌, List, [], ◌∷◌, ◌++◌, AllPairs, All, length, get_or, set, take, drop, map, remove, append_assoc, refl, ap, ap₂, sym, subst, ◌∙◌, zero, suc, length-append, replicate, slice_get, Some, arith}
 use Rattle.std.specs.List.{range_with_len}
-use Rattle.std.proofs.lemmas.List.{map-append, take-map, drop-map, map_more, get_or-map, get_or-take, get_or-set_same, get_or-set_other, length-map, map-set, length-take-le, length-set, take-append-drop, take-append-le, take_all, same_lists}
+use Rattle.std.proofs.lemmas.List.{map-append, take-map, drop-map, map_more, get_or-map, get_or-take, get_or_default, get_or-set_same, get_or-set_other, length-map, map-set, length-take-le, length-set, take-append-drop, take-append-le, take_all, same_lists}
 use Rattle.std.proofs.lemmas.List.Edits.{length-remove, get_or-remove_below, get_or-remove_above, remove-append_left}
+use Rattle.std.proofs.lemmas.List.Elements.{All-push}
 use Rattle.std.proofs.lemmas.List.FromFn.{get_or-range_with_len, length-range_with_len}
 use Rattle.std.proofs.lemmas.List.Quantifiers.{all_pairs_remove, all_pairs_push}
 use Rattle.std.proofs.lemmas.Option.{slice_get_read, get_or_from_slice_get}
 use native.Mathlib.Decide.{dec_lt}
 use Rattle.dpe_handles.specs.declared.row.Row.{Row}
 use Rattle.dpe_handles.specs.Rows.{serial, IsAscending, IsTable, HasSerial, rows_in, serials_of, no_row, row_limit}
+
+-- what holds of each element holds without the one at this place
+pub all_remove : {X : Type 0} (P : X → Type 0) (xs : List X) (at : ℕ) → at < length xs → All P xs → All P (remove xs at)
+all_remove P xs at lt all k d within =
+    let long = length-remove xs at lt in
+    elim (dec_lt k at) [
+      | yes below ↦ subst P (sym (get_or-remove_below xs at d k below lt)) (all k d (omega arith))
+      | no above ↦ subst P (sym (get_or-remove_above xs at d k (omega arith) lt)) (all (k + 1) d (omega arith))
+    ]
 
 -- the element at a place, whatever stands in for one past the end
 there : {X : Type 0} (xs : List X) (at : ℕ) (x d : X) → at < length xs → x ≡ get_or xs at x → get_or xs at d ≡ x
@@ -17,20 +27,37 @@ there xs at x d lt is = get_or_from_slice_get xs at x d (slice_get_read xs _ at 
 pub rows_count : (rows : List Row) (order : List ℕ) (live : ℕ) → live ≤ length order → length (rows_in rows (take live order)) ≡ live
 rows_count rows order live le = length-map (take live order) _ ∙ length-take-le live order le
 
--- the serial of the row at a place, read from the list of the slots' serials
-pub serial_there : (rows : List Row) (order serials : List ℕ) (live at slot n : ℕ) → live ≤ length order → at < live → slot ≡ get_or order at slot → slot < length rows
-    → serials ≡ serials_of rows → n ≡ get_or serials slot n → HasSerial (rows_in rows (take live order)) at n
-serial_there rows order serials live at slot n le lt is within all here =
-    let f : ℕ → Row = λ s. get_or rows s no_row in
-    let g : Row → ℕ = λ r. serial r.handle in
-    let row = get_or rows slot no_row in
-    let few = length-take-le live order le in
-    let many = rows_count rows order live le in
-    let this : get_or (rows_in rows (take live order)) at row ≡ row =
-    get_or-map f (take live order) at slot row (omega arith) ∙ ap f (get_or-take live order at slot lt ∙ sym is)
-    in
-    let found = slice_get_read (rows_in rows (take live order)) _ at row refl (omega arith) (sym this) in
-    (row, found, sym (here ∙ ap (λ ns. get_or ns slot n) all ∙ get_or-map g rows slot no_row n within))
+module _ (rows : List Row) (order : List ℕ) (live : ℕ) (t : IsTable rows order live) where
+  pub slot_within : (at slot : ℕ) → at < row_limit → slot ≡ get_or order at slot → slot < length rows
+  slot_within at slot lt is = let numbers = t.numbers in let slots = t.slots in let below = t.below at slot (omega arith) in omega arith
+
+  module _ (now : List Row) (view : rows_in rows (take live order) ≡ now) where
+    pub live_count : live ≡ length now
+    live_count = let few = t.few in let numbers = t.numbers in sym (rows_count rows order live (omega arith)) ∙ ap length view
+
+    module _ (at slot : ℕ) (lt : at < length now) (is : slot ≡ get_or order at slot) where
+      pub place_within : slot < length rows
+      place_within = let few = t.few in let same = live_count in slot_within at slot (omega arith) is
+
+      pub row_there : (row : Row) → row ≡ get_or rows slot row → slice_get now at ≡ Some row
+      row_there row here =
+          let f : ℕ → Row = λ s. get_or rows s no_row in
+          let same = live_count in
+          let numbers = t.numbers in
+          let few = t.few in
+          let long = length-take-le live order (omega arith) in
+          let found : get_or (rows_in rows (take live order)) at row ≡ row =
+          get_or-map f (take live order) at slot row (omega arith) ∙ ap f (get_or-take live order at slot (omega arith) ∙ sym is)
+          ∙ there rows slot row no_row place_within here
+          in
+          slice_get_read now _ at row refl lt (sym (ap (λ rs. get_or rs at row) (sym view) ∙ found))
+
+      -- its serial, read from the list of the slots' serials
+      pub serial_there : (serials : List ℕ) (n : ℕ) → serials ≡ serials_of rows → n ≡ get_or serials slot n → HasSerial now at n
+      serial_there serials n all here =
+          let g : Row → ℕ = λ r. serial r.handle in
+          let row = get_or rows slot no_row in
+          (row, row_there row (get_or_default rows slot no_row row place_within), sym (here ∙ ap (λ ns. get_or ns slot n) all ∙ get_or-map g rows slot no_row n place_within))
 
 -- a serial and its row are written into a slot
 pub serials_issued : (rows : List Row) (serials : List ℕ) (slot number : ℕ) (row : Row) → number ≡ serial row.handle → serials ≡ serials_of rows → set serials slot number ≡ serials_of (set rows slot row)
@@ -62,7 +89,14 @@ numbers_differ n i j d lt within same =
     let b = get_or-range_with_len 0 n j d (omega arith) in
     omega arith
 
+numbers_below : (n : ℕ) → All (λ (a : ℕ). a < n) (range_with_len 0 n)
+numbers_below n k d within = let many = length-range_with_len 0 n in let a = get_or-range_with_len 0 n k d (omega arith) in omega arith
+
 -- a number that is taken out and put behind
+below_moved : (order : List ℕ) (at slot most : ℕ) → at < length order → slot ≡ get_or order at slot → All (λ (a : ℕ). a < most) order → All (λ (a : ℕ). a < most) (remove order at ++ slot ∷ [])
+below_moved order at slot most lt is below =
+    All-push (λ (a : ℕ). a < most) (remove order at) slot (all_remove (λ (a : ℕ). a < most) order at lt below) (let b = below at slot lt in omega arith)
+
 differ_moved : (order : List ℕ) (at slot : ℕ) → at < length order → slot ≡ get_or order at slot → AllPairs (λ (a b : ℕ). a ≢ b) order → AllPairs (λ (a b : ℕ). a ≢ b) (remove order at ++ slot ∷ [])
 differ_moved order at slot lt is differ =
     all_pairs_push (λ (a b : ℕ). a ≢ b) (remove order at) slot (all_pairs_remove (λ (a b : ℕ). a ≢ b) order at lt differ) (λ k d within same.
@@ -125,6 +159,7 @@ table_made rows order slots all = record {
   few = omega arith;
   slots = slots;
   numbers = ap length all ∙ length-range_with_len 0 row_limit;
+  below = subst (All (λ (a : ℕ). a < row_limit)) (sym all) (numbers_below row_limit);
   differ = subst (λ (ns : List ℕ). AllPairs (λ (a b : ℕ). a ≢ b) ns) (sym all) (numbers_differ row_limit);
 }
 
@@ -143,6 +178,7 @@ module _ (rows : List Row) (order : List ℕ) (live : ℕ) (t : IsTable rows ord
         few = omega arith;
         slots = t.slots;
         numbers = omega arith;
+        below = subst (All (λ (a : ℕ). a < row_limit)) (sym moved) (below_moved order at slot row_limit (omega arith) is t.below);
         differ = subst (λ (ns : List ℕ). AllPairs (λ (a b : ℕ). a ≢ b) ns) (sym moved) (differ_moved order at slot (omega arith) is t.differ);
       }
 
@@ -156,5 +192,6 @@ module _ (rows : List Row) (order : List ℕ) (live : ℕ) (t : IsTable rows ord
         few = omega arith;
         slots = length-set rows slot row ∙ slots;
         numbers = numbers;
+        below = t.below;
         differ = t.differ;
       }

@@ -1,7 +1,7 @@
-//! The search for a handle.
+//! The searches: for a handle, and for the default of a locality.
 ghost use Rattle.std.specs.Prelude.{◌≡◌, ℕ, ◌+◌, ◌^◌, ◌<◌, ◌≤◌, length, Some, None, IfSome, IfNone, slice_get, slice_index};
 ghost use Rattle.std.specs.Int.{w64, from_be_bytes};
-ghost use Rattle.dpe_handles.specs.Rows.{serial, HasHandle, HasNoHandle, HasSerial, IsOnlyAt, FewSteps, FewLooks};
+ghost use Rattle.dpe_handles.specs.Rows.{serial, HasHandle, HasNoHandle, HasSerial, IsOnlyAt, IsDefaultAt, HasNoDefault, HalvingLooks, HalvingSteps};
 
 use crate::row::Row;
 use crate::table::{Steps, Table};
@@ -33,7 +33,7 @@ impl Table {
         requires few { steps.old.taken ≤ 2 ^ 31 }
         ensures place { result < length self.now }
         ensures only { IsOnlyAt self.now serial result }
-        ensures few { FewLooks (length self.now) steps.old.taken steps.new.taken }
+        ensures looks { HalvingLooks (length self.now) steps.old.taken steps.new.taken }
     {
         let mut at = 0;
         let mut left = self.len();
@@ -48,12 +48,12 @@ impl Table {
     }
 
     /// The place of the row with these bytes, or `None` exactly where no row has them. Each row that is looked at is
-    /// counted: that is at most one more than the number of binary digits of the length.
+    /// counted: that is as many as the length has binary digits, or one more.
     pub fn find(&self, handle: &[u8; 16], steps: &mut Steps) -> Option<usize>
         requires { steps.old.taken ≤ 2 ^ 31 }
         ensures found { IfSome result (HasHandle self.now handle.now) }
         ensures absent { IfNone result (HasNoHandle self.now handle.now) }
-        ensures few { FewSteps (length self.now) steps.old.taken steps.new.taken }
+        ensures steps { HalvingSteps (length self.now) steps.old.taken steps.new.taken }
     {
         if self.len() == 0 {
             return None;
@@ -61,6 +61,24 @@ impl Table {
         let at = self.only_place(serial_of(handle), steps);
         steps.count();
         if self.row(at).handle == *handle {
+            Some(at)
+        } else {
+            None
+        }
+    }
+
+    /// The place of the marked row of this locality, or `None` exactly where there is none. It looks at as many rows as
+    /// `find`, and counts none.
+    pub fn default_at(&self, locality: u8) -> Option<usize>
+        ensures found { IfSome result (IsDefaultAt self.now locality) }
+        ensures absent { IfNone result (HasNoDefault self.now locality) }
+    {
+        if self.len() == 0 {
+            return None;
+        }
+        let at = self.only_place(self.default_serial(locality), &mut Steps::new());
+        let row = self.row(at);
+        if row.default && row.locality == locality {
             Some(at)
         } else {
             None

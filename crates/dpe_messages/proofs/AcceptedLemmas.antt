@@ -134,16 +134,19 @@ module _ (at : ℕ → Option Value) (is : (key : ℕ) → IfOfBytes (at key)) w
   string : (key : ℕ) → AreBytes (bytes_or [] (at key))
   string key = bytes_or_of (at key) (is key)
 
+  named : AreBytes (unwrap_or (bytes_if (at 1)) [])
+  named = bytes_if_of (at 1) (is 1)
+
   request_bytes : (n : ℕ) → AllAreBytes (byte_strings (request_from n at))
   request_bytes n =
       by_number (λ table made. AllAreBytes (byte_strings (made at)))
       tt
-      (string 1, (string 2, (config_bytes (at 3) (at 4) (is 3) (is 4), (string 5, (bytes_if_of (at 7) (is 7), tt)))))
-      (string 1, (string 2, (string 5, tt)))
-      (string 1, (string 2, (string 6, tt)))
-      (string 1, (string 2, (string 5, tt)))
-      (string 1, tt)
-      (string 1, tt)
+      (named, (string 2, (config_bytes (at 3) (at 4) (is 3) (is 4), (string 5, (bytes_if_of (at 7) (is 7), tt)))))
+      (named, (string 2, (string 5, tt)))
+      (named, (string 2, (string 6, tt)))
+      (named, (string 2, (string 5, tt)))
+      (named, tt)
+      (named, tt)
       tt
       n
 

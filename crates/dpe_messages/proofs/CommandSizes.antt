@@ -6,7 +6,7 @@ use Rattle.dpe_messages.specs.FlatMap.{Value, number, byte_string, truth}
 use Rattle.dpe_messages.specs.Message.{Row, present, message}
 use Rattle.dpe_messages.specs.Request.{Configuration, inline, descriptor, DeriveRequest, SignRequest, SealRequest, UnsealRequest, Request, get_profile, initialize, derive, sign, seal, unseal, rotate, destroy}
 use Rattle.dpe_messages.specs.CommandRows.{unless_empty, unless_number, if_true, unless_true, inline_value, descriptor_value, derive_rows, sign_rows, seal_rows, unseal_rows, command_rows, number_of_request, command_payload, IsInlineRight, IsShort}
-use Rattle.dpe_messages.specs.Ranges.{IsConfiguration, IsDerive, IsSign, IsSeal, IsUnseal, InRanges}
+use Rattle.dpe_messages.specs.Ranges.{IsConfiguration, IsDerive, IsSign, IsSeal, IsUnseal, IsHandle, InRanges}
 use Rattle.dpe_messages.specs.Commands.{configuration_of}
 use Rattle.dpe_messages.specs.declared.command.Config.{Config}
 use Rattle.dpe_messages.specs.declared.command.Config.TheVariants.{Inline, Descriptor}
@@ -59,6 +59,10 @@ bounded_locality : (l : Option ℕ) → IfSome l (λ n. n ≤ 7) → Bounded 10 
 bounded_locality None is = bounded_none 10 6
 bounded_locality (Some l) is = bounded_number 10 l (omega arith) (omega (arith, is))
 
+bounded_handle : (h : Option (List ℕ)) → IfSome h IsHandle → Bounded 1 (option_map byte_string h) 22
+bounded_handle None is = bounded_none 1 22
+bounded_handle (Some h) is = bounded_bytes 1 h 16 (omega arith) (omega arith) (omega (arith, is))
+
 derive_fits : (d : DeriveRequest) → IsDerive d → length (command_payload (derive d)) ≤ 4096
 derive_fits d is =
     let a = bounded_inline d.config is.config in
@@ -67,81 +71,102 @@ derive_fits d is =
     let r = bounded_if 8 d.retain (omega arith) in
     let m = bounded_unless 9 d.may_derive (omega arith) in
     let l = bounded_locality d.locality is.locality in
+    let n = bounded_handle d.handle is.handle in
+    let c = bounded_if 12 d.child_default (omega arith) in
     message_fits 8 (derive_rows d) (omega arith) (
-      (omega arith, omega (arith, is.handle)),
+      n.0,
       (
         (omega arith, omega (arith, is.code)),
-        (a.0, (b.0, ((omega arith, omega (arith, is.authority)), ((omega arith, omega (arith, is.mode)), (h.0, (r.0, (m.0, (l.0, tt)))))))),
+        (a.0, (b.0, ((omega arith, omega (arith, is.authority)), ((omega arith, omega (arith, is.mode)), (h.0, (r.0, (m.0, (l.0, (c.0, tt))))))))),
       ),
-    ) (omega (arith, is.handle, is.code, is.authority, a.1, b.1, h.1, r.1, m.1, l.1))
+    ) (omega (arith, n.1, is.code, is.authority, a.1, b.1, h.1, r.1, m.1, l.1, c.1))
 
 sign_fits : (s : SignRequest) → IsSign s → length (command_payload (sign s)) ≤ 4096
 sign_fits s is =
+    let n = bounded_handle s.handle is.handle in
     let l = bounded_label s.label is.label in
     let r = bounded_if 3 s.retain (omega arith) in
     message_fits 10 (sign_rows s) (omega arith)
-    ((omega arith, omega (arith, is.handle)), (l.0, (r.0, ((omega arith, tt), ((omega arith, omega (arith, is.message)), tt)))))
-    (omega (arith, is.handle, is.message, l.1, r.1))
+    (n.0, (l.0, (r.0, ((omega arith, tt), ((omega arith, omega (arith, is.message)), tt)))))
+    (omega (arith, n.1, is.message, l.1, r.1))
 
 seal_fits : (s : SealRequest) → IsSeal s → length (command_payload (seal s)) ≤ 4096
 seal_fits s is =
+    let n = bounded_handle s.handle is.handle in
     let l = bounded_label s.label is.label in
     let r = bounded_if 3 s.retain (omega arith) in
     let a = bounded_other 4 255 s.localities (omega arith) (omega (arith, is.localities)) in
     let m = bounded_other 5 15 s.modes (omega arith) (omega (arith, is.modes)) in
     message_fits 11 (seal_rows s) (omega arith)
-    ((omega arith, omega (arith, is.handle)), (l.0, (r.0, (a.0, (m.0, ((omega arith, omega (arith, is.plain)), tt))))))
-    (omega (arith, is.handle, is.plain, l.1, r.1, a.1, m.1))
+    (n.0, (l.0, (r.0, (a.0, (m.0, ((omega arith, omega (arith, is.plain)), tt))))))
+    (omega (arith, n.1, is.plain, l.1, r.1, a.1, m.1))
 
 unseal_fits : (u : UnsealRequest) → IsUnseal u → length (command_payload (unseal u)) ≤ 4096
 unseal_fits u is =
+    let n = bounded_handle u.handle is.handle in
     let l = bounded_label u.label is.label in
     let r = bounded_if 3 u.retain (omega arith) in
     message_fits 12 (unseal_rows u) (omega arith)
-    ((omega arith, omega (arith, is.handle)), (l.0, (r.0, ((omega arith, omega (arith, is.sealed)), tt))))
-    (omega (arith, is.handle, is.sealed, l.1, r.1))
+    (n.0, (l.0, (r.0, ((omega arith, omega (arith, is.sealed)), tt))))
+    (omega (arith, n.1, is.sealed, l.1, r.1))
 
-destroy_fits : (handle : List ℕ) (recursive : Bool) → length handle ≡ 16 → length (command_payload (destroy handle recursive)) ≤ 4096
+destroy_fits : (handle : Option (List ℕ)) (recursive : Bool) → IfSome handle IsHandle → length (command_payload (destroy handle recursive)) ≤ 4096
 destroy_fits handle recursive is =
+    let n = bounded_handle handle is in
     let r = bounded_if 2 recursive (omega arith) in
-    message_fits 15 (command_rows (destroy handle recursive)) (omega arith) ((omega arith, omega (arith, is)), (r.0, tt)) (omega (arith, is, r.1))
+    message_fits 15 (command_rows (destroy handle recursive)) (omega arith) (n.0, (r.0, tt)) (omega (arith, n.1, r.1))
+
+rotate_fits : (handle : Option (List ℕ)) (default : Bool) → IfSome handle IsHandle → length (command_payload (rotate handle default)) ≤ 4096
+rotate_fits handle default is =
+    let n = bounded_handle handle is in
+    let r = bounded_if 2 default (omega arith) in
+    message_fits 14 (command_rows (rotate handle default)) (omega arith) (n.0, (r.0, tt)) (omega (arith, n.1, r.1))
+
+initialize_fits : (default : Bool) → length (command_payload (initialize default)) ≤ 4096
+initialize_fits default =
+    let r = bounded_if 2 default (omega arith) in
+    message_fits 7 (command_rows (initialize default)) (omega arith) (r.0, tt) (omega (arith, r.1))
 
 pub command_fits : (r : Request) → InRanges r → length (command_payload r) ≤ 4096
 command_fits get_profile is = message_fits 1 [] (omega arith) tt (omega arith)
-command_fits initialize is = message_fits 7 [] (omega arith) tt (omega arith)
+command_fits (initialize default) is = initialize_fits default
 command_fits (derive d) is = derive_fits d is
 command_fits (sign s) is = sign_fits s is
 command_fits (seal s) is = seal_fits s is
 command_fits (unseal u) is = unseal_fits u is
-command_fits (rotate handle) is = message_fits 14 (command_rows (rotate handle)) (omega arith) ((omega arith, omega (arith, is)), tt) (omega (arith, is))
+command_fits (rotate handle default) is = rotate_fits handle default is
 command_fits (destroy handle recursive) is = destroy_fits handle recursive is
 
 -- ---- the tables that a writer makes
 
-pub derive_table : (d : DeriveRequest) (handle code a b authority mode h r m l : Option Value) → handle ≡ Some (byte_string d.handle) → code ≡ Some (byte_string d.code)
+pub derive_table : (d : DeriveRequest) (handle code a b authority mode h r m l c : Option Value) → handle ≡ option_map byte_string d.handle → code ≡ Some (byte_string d.code)
     → a ≡ inline_value d.config → b ≡ descriptor_value d.config → authority ≡ Some (byte_string d.authority) → mode ≡ Some (number d.mode) → h ≡ option_map byte_string d.hidden
-    → r ≡ if_true d.retain → m ≡ unless_true d.may_derive → l ≡ option_map number d.locality
-    → (1, handle) ∷ (2, code) ∷ (3, a) ∷ (4, b) ∷ (5, authority) ∷ (6, mode) ∷ (7, h) ∷ (8, r) ∷ (9, m) ∷ (10, l) ∷ [] ≡ derive_rows d
-derive_table d handle code a b authority mode h r m l e1 e2 e3 e4 e5 e6 e7 e8 e9 e10 =
-    λ i. (1, e1 i) ∷ (2, e2 i) ∷ (3, e3 i) ∷ (4, e4 i) ∷ (5, e5 i) ∷ (6, e6 i) ∷ (7, e7 i) ∷ (8, e8 i) ∷ (9, e9 i) ∷ (10, e10 i) ∷ []
+    → r ≡ if_true d.retain → m ≡ unless_true d.may_derive → l ≡ option_map number d.locality → c ≡ if_true d.child_default
+    → (1, handle) ∷ (2, code) ∷ (3, a) ∷ (4, b) ∷ (5, authority) ∷ (6, mode) ∷ (7, h) ∷ (8, r) ∷ (9, m) ∷ (10, l) ∷ (12, c) ∷ [] ≡ derive_rows d
+derive_table d handle code a b authority mode h r m l c e1 e2 e3 e4 e5 e6 e7 e8 e9 e10 e12 =
+    λ i. (1, e1 i) ∷ (2, e2 i) ∷ (3, e3 i) ∷ (4, e4 i) ∷ (5, e5 i) ∷ (6, e6 i) ∷ (7, e7 i) ∷ (8, e8 i) ∷ (9, e9 i) ∷ (10, e10 i) ∷ (12, e12 i) ∷ []
 
-pub sign_table : (s : SignRequest) (handle l r : Option Value) → handle ≡ Some (byte_string s.handle) → l ≡ unless_empty s.label → r ≡ if_true s.retain
+pub sign_table : (s : SignRequest) (handle l r : Option Value) → handle ≡ option_map byte_string s.handle → l ≡ unless_empty s.label → r ≡ if_true s.retain
     → (1, handle) ∷ (2, l) ∷ (3, r) ∷ (4, Some (truth true)) ∷ (5, Some (byte_string s.message)) ∷ [] ≡ sign_rows s
 sign_table s handle l r e1 e2 e3 = λ i. (1, e1 i) ∷ (2, e2 i) ∷ (3, e3 i) ∷ (4, Some (truth true)) ∷ (5, Some (byte_string s.message)) ∷ []
 
-pub seal_table : (s : SealRequest) (handle l r a m : Option Value) → handle ≡ Some (byte_string s.handle) → l ≡ unless_empty s.label → r ≡ if_true s.retain
+pub seal_table : (s : SealRequest) (handle l r a m : Option Value) → handle ≡ option_map byte_string s.handle → l ≡ unless_empty s.label → r ≡ if_true s.retain
     → a ≡ unless_number 255 s.localities → m ≡ unless_number 15 s.modes
     → (1, handle) ∷ (2, l) ∷ (3, r) ∷ (4, a) ∷ (5, m) ∷ (6, Some (byte_string s.plain)) ∷ [] ≡ seal_rows s
 seal_table s handle l r a m e1 e2 e3 e4 e5 = λ i. (1, e1 i) ∷ (2, e2 i) ∷ (3, e3 i) ∷ (4, e4 i) ∷ (5, e5 i) ∷ (6, Some (byte_string s.plain)) ∷ []
 
-pub unseal_table : (u : UnsealRequest) (handle l r : Option Value) → handle ≡ Some (byte_string u.handle) → l ≡ unless_empty u.label → r ≡ if_true u.retain
+pub unseal_table : (u : UnsealRequest) (handle l r : Option Value) → handle ≡ option_map byte_string u.handle → l ≡ unless_empty u.label → r ≡ if_true u.retain
     → (1, handle) ∷ (2, l) ∷ (3, r) ∷ (5, Some (byte_string u.sealed)) ∷ [] ≡ unseal_rows u
 unseal_table u handle l r e1 e2 e3 = λ i. (1, e1 i) ∷ (2, e2 i) ∷ (3, e3 i) ∷ (5, Some (byte_string u.sealed)) ∷ []
 
-pub rotate_table : (handle : List ℕ) (h : Option Value) → h ≡ Some (byte_string handle) → (1, h) ∷ [] ≡ command_rows (rotate handle)
-rotate_table handle h e1 = λ i. (1, e1 i) ∷ []
+pub initialize_table : (default : Bool) (r : Option Value) → r ≡ if_true default → (2, r) ∷ [] ≡ command_rows (initialize default)
+initialize_table default r e2 = λ i. (2, e2 i) ∷ []
 
-pub destroy_table : (handle : List ℕ) (recursive : Bool) (h r : Option Value) → h ≡ Some (byte_string handle) → r ≡ if_true recursive
+pub rotate_table : (handle : Option (List ℕ)) (default : Bool) (h r : Option Value) → h ≡ option_map byte_string handle → r ≡ if_true default
+    → (1, h) ∷ (2, r) ∷ [] ≡ command_rows (rotate handle default)
+rotate_table handle default h r e1 e2 = λ i. (1, e1 i) ∷ (2, e2 i) ∷ []
+
+pub destroy_table : (handle : Option (List ℕ)) (recursive : Bool) (h r : Option Value) → h ≡ option_map byte_string handle → r ≡ if_true recursive
     → (1, h) ∷ (2, r) ∷ [] ≡ command_rows (destroy handle recursive)
 destroy_table handle recursive h r e1 e2 = λ i. (1, e1 i) ∷ (2, e2 i) ∷ []
 

@@ -80,56 +80,72 @@ locality_back (Some l) = refl
 -- ---- the class of each command's map
 
 module _ (m : FlatMap) where
-  sign_class : (s : SignRequest) → list_all (is_argument (arguments 10)) m ≡ true → value_at 1 m ≡ Some (byte_string s.handle) → value_at 2 m ≡ unless_empty s.label
+  sign_class : (s : SignRequest) → list_all (is_argument (arguments 10)) m ≡ true → value_at 1 m ≡ option_map byte_string s.handle → value_at 2 m ≡ unless_empty s.label
       → value_at 3 m ≡ if_true s.retain → value_at 4 m ≡ Some (truth true) → value_at 5 m ≡ Some (byte_string s.message) → class_of 10 m ≡ accepted (sign s)
   unfolding class_of request
   sign_class s all e1 e2 e3 e4 e5 =
+      let handle : bytes_if (value_at 1 m) ≡ s.handle = ap bytes_if e1 ∙ hidden_back s.handle in
       let label : bytes_or [] (value_at 2 m) ≡ s.label = ap (bytes_or []) e2 ∙ label_back s.label in
       let retain : truth_or false (value_at 3 m) ≡ s.retain = ap (truth_or false) e3 ∙ if_back s.retain in
-      rw (e4, all, e1, e5) (λ i. accepted (sign (record { handle = s.handle; label = label i; retain = retain i; message = s.message })))
+      rw (e4, all, e5) (λ i. accepted (sign (record { handle = handle i; label = label i; retain = retain i; message = s.message })))
 
-  seal_class : (s : SealRequest) → list_all (is_argument (arguments 11)) m ≡ true → value_at 1 m ≡ Some (byte_string s.handle) → value_at 2 m ≡ unless_empty s.label
+  seal_class : (s : SealRequest) → list_all (is_argument (arguments 11)) m ≡ true → value_at 1 m ≡ option_map byte_string s.handle → value_at 2 m ≡ unless_empty s.label
       → value_at 3 m ≡ if_true s.retain → value_at 4 m ≡ unless_number 255 s.localities → value_at 5 m ≡ unless_number 15 s.modes → value_at 6 m ≡ Some (byte_string s.plain) → class_of 11 m ≡ accepted (seal s)
   unfolding class_of request
   seal_class s all e1 e2 e3 e4 e5 e6 =
+      let handle : bytes_if (value_at 1 m) ≡ s.handle = ap bytes_if e1 ∙ hidden_back s.handle in
       let label : bytes_or [] (value_at 2 m) ≡ s.label = ap (bytes_or []) e2 ∙ label_back s.label in
       let retain : truth_or false (value_at 3 m) ≡ s.retain = ap (truth_or false) e3 ∙ if_back s.retain in
       let localities : number_or 255 (value_at 4 m) ≡ s.localities = ap (number_or 255) e4 ∙ number_back 255 s.localities in
       let modes : number_or 15 (value_at 5 m) ≡ s.modes = ap (number_or 15) e5 ∙ number_back 15 s.modes in
-      rw (all, e1, e6) (λ i. accepted (seal (record { handle = s.handle; label = label i; retain = retain i; localities = localities i; modes = modes i; plain = s.plain })))
+      rw (all, e6) (λ i. accepted (seal (record { handle = handle i; label = label i; retain = retain i; localities = localities i; modes = modes i; plain = s.plain })))
 
-  unseal_class : (u : UnsealRequest) → list_all (is_argument (arguments 12)) m ≡ true → value_at 1 m ≡ Some (byte_string u.handle) → value_at 2 m ≡ unless_empty u.label
+  unseal_class : (u : UnsealRequest) → list_all (is_argument (arguments 12)) m ≡ true → value_at 1 m ≡ option_map byte_string u.handle → value_at 2 m ≡ unless_empty u.label
       → value_at 3 m ≡ if_true u.retain → value_at 4 m ≡ None → value_at 5 m ≡ Some (byte_string u.sealed) → class_of 12 m ≡ accepted (unseal u)
   unfolding class_of request
   unseal_class u all e1 e2 e3 e4 e5 =
+      let handle : bytes_if (value_at 1 m) ≡ u.handle = ap bytes_if e1 ∙ hidden_back u.handle in
       let label : bytes_or [] (value_at 2 m) ≡ u.label = ap (bytes_or []) e2 ∙ label_back u.label in
       let retain : truth_or false (value_at 3 m) ≡ u.retain = ap (truth_or false) e3 ∙ if_back u.retain in
-      rw (e4, all, e1, e5) (λ i. accepted (unseal (record { handle = u.handle; label = label i; retain = retain i; sealed = u.sealed })))
+      rw (e4, all, e5) (λ i. accepted (unseal (record { handle = handle i; label = label i; retain = retain i; sealed = u.sealed })))
 
-  rotate_class : (handle : List ℕ) → list_all (is_argument (arguments 14)) m ≡ true → value_at 1 m ≡ Some (byte_string handle) → value_at 2 m ≡ None → class_of 14 m ≡ accepted (rotate handle)
+  initialize_class : (default : Bool) → list_all (is_argument (arguments 7)) m ≡ true → value_at 1 m ≡ None → value_at 2 m ≡ if_true default → class_of 7 m ≡ accepted (initialize default)
   unfolding class_of request
-  rotate_class handle all e1 e2 = rw (e2, all, e1) refl
+  initialize_class default all e1 e2 =
+      let back : truth_or false (value_at 2 m) ≡ default = ap (truth_or false) e2 ∙ if_back default in
+      rw (e1, all) (λ i. accepted (initialize (back i)))
 
-  destroy_class : (handle : List ℕ) (recursive : Bool) → list_all (is_argument (arguments 15)) m ≡ true → value_at 1 m ≡ Some (byte_string handle) → value_at 2 m ≡ if_true recursive → class_of 15 m ≡ accepted (destroy handle recursive)
+  rotate_class : (handle : Option (List ℕ)) (default : Bool) → list_all (is_argument (arguments 14)) m ≡ true → value_at 1 m ≡ option_map byte_string handle → value_at 2 m ≡ if_true default
+      → class_of 14 m ≡ accepted (rotate handle default)
+  unfolding class_of request
+  rotate_class handle default all e1 e2 =
+      let name : bytes_if (value_at 1 m) ≡ handle = ap bytes_if e1 ∙ hidden_back handle in
+      let back : truth_or false (value_at 2 m) ≡ default = ap (truth_or false) e2 ∙ if_back default in
+      rw all (λ i. accepted (rotate (name i) (back i)))
+
+  destroy_class : (handle : Option (List ℕ)) (recursive : Bool) → list_all (is_argument (arguments 15)) m ≡ true → value_at 1 m ≡ option_map byte_string handle → value_at 2 m ≡ if_true recursive → class_of 15 m ≡ accepted (destroy handle recursive)
   unfolding class_of request
   destroy_class handle recursive all e1 e2 =
       let back : truth_or false (value_at 2 m) ≡ recursive = ap (truth_or false) e2 ∙ if_back recursive in
-      rw (all, e1) (λ i. accepted (destroy handle (back i)))
+      let name : bytes_if (value_at 1 m) ≡ handle = ap bytes_if e1 ∙ hidden_back handle in
+      rw all (λ i. accepted (destroy (name i) (back i)))
 
-  derive_class : (d : DeriveRequest) → list_all (is_argument (arguments 8)) m ≡ true → value_at 1 m ≡ Some (byte_string d.handle) → value_at 2 m ≡ Some (byte_string d.code)
+  derive_class : (d : DeriveRequest) → list_all (is_argument (arguments 8)) m ≡ true → value_at 1 m ≡ option_map byte_string d.handle → value_at 2 m ≡ Some (byte_string d.code)
       → value_at 3 m ≡ inline_value d.config → value_at 4 m ≡ descriptor_value d.config → value_at 5 m ≡ Some (byte_string d.authority) → value_at 6 m ≡ Some (number d.mode)
-      → value_at 7 m ≡ option_map byte_string d.hidden → value_at 8 m ≡ if_true d.retain → value_at 9 m ≡ unless_true d.may_derive → value_at 10 m ≡ option_map number d.locality → value_at 11 m ≡ None
+      → value_at 7 m ≡ option_map byte_string d.hidden → value_at 8 m ≡ if_true d.retain → value_at 9 m ≡ unless_true d.may_derive → value_at 10 m ≡ option_map number d.locality → value_at 11 m ≡ None → value_at 12 m ≡ if_true d.child_default
       → class_of 8 m ≡ accepted (derive d)
   unfolding class_of request
-  derive_class d all e1 e2 e3 e4 e5 e6 e7 e8 e9 e10 e11 = go d.config e3 e4 refl where
+  derive_class d all e1 e2 e3 e4 e5 e6 e7 e8 e9 e10 e11 e12 = go d.config e3 e4 refl where
     go : (config : Configuration) → value_at 3 m ≡ inline_value config → value_at 4 m ≡ descriptor_value config → config ≡ d.config → class_of 8 m ≡ accepted (derive d)
     go (inline b) f3 f4 same =
+        let handle : bytes_if (value_at 1 m) ≡ d.handle = ap bytes_if e1 ∙ hidden_back d.handle in
         let hidden : bytes_if (value_at 7 m) ≡ d.hidden = ap bytes_if e7 ∙ hidden_back d.hidden in
         let retain : truth_or false (value_at 8 m) ≡ d.retain = ap (truth_or false) e8 ∙ if_back d.retain in
         let may : truth_or true (value_at 9 m) ≡ d.may_derive = ap (truth_or true) e9 ∙ unless_back d.may_derive in
         let locality : number_if (value_at 10 m) ≡ d.locality = ap number_if e10 ∙ locality_back d.locality in
-        rw (e11, all, e1, e2, f3, f4, e5, e6) (λ i. accepted (derive (record {
-          handle = d.handle;
+        let default : truth_or false (value_at 12 m) ≡ d.child_default = ap (truth_or false) e12 ∙ if_back d.child_default in
+        rw (e11, all, e2, f3, f4, e5, e6) (λ i. accepted (derive (record {
+          handle = handle i;
           code = d.code;
           config = same i;
           authority = d.authority;
@@ -138,14 +154,17 @@ module _ (m : FlatMap) where
           retain = retain i;
           may_derive = may i;
           locality = locality i;
+          child_default = default i;
         })))
     go (descriptor b) f3 f4 same =
+        let handle : bytes_if (value_at 1 m) ≡ d.handle = ap bytes_if e1 ∙ hidden_back d.handle in
         let hidden : bytes_if (value_at 7 m) ≡ d.hidden = ap bytes_if e7 ∙ hidden_back d.hidden in
         let retain : truth_or false (value_at 8 m) ≡ d.retain = ap (truth_or false) e8 ∙ if_back d.retain in
         let may : truth_or true (value_at 9 m) ≡ d.may_derive = ap (truth_or true) e9 ∙ unless_back d.may_derive in
         let locality : number_if (value_at 10 m) ≡ d.locality = ap number_if e10 ∙ locality_back d.locality in
-        rw (e11, all, e1, e2, f3, f4, e5, e6) (λ i. accepted (derive (record {
-          handle = d.handle;
+        let default : truth_or false (value_at 12 m) ≡ d.child_default = ap (truth_or false) e12 ∙ if_back d.child_default in
+        rw (e11, all, e2, f3, f4, e5, e6) (λ i. accepted (derive (record {
+          handle = handle i;
           code = d.code;
           config = same i;
           authority = d.authority;
@@ -154,6 +173,7 @@ module _ (m : FlatMap) where
           retain = retain i;
           may_derive = may i;
           locality = locality i;
+          child_default = default i;
         })))
 
 -- ---- the rows of each command are good
@@ -177,12 +197,18 @@ good_unless command k b lt is = good_cond b command k None (Some (truth b)) (goo
 good_other : (command k default n : ℕ) → k < 100 → n < 256 → is_argument (arguments command) (k, number n) ≡ true → Good command k (unless_number default n)
 good_other command k default n lt le is = good_cond _ command k None (Some (number n)) (good_none command k) (good_number command k n lt le is)
 
+is_16 : (b : List ℕ) → IsHandle b → (leb 16 (length b) && leb (length b) 16) ≡ true
+is_16 b is = within 16 16 b (omega (arith, is)) (omega (arith, is))
+
+good_handle : (command : ℕ) (h : Option (List ℕ)) → ((b : List ℕ) → IsHandle b → is_argument (arguments command) (1, byte_string b) ≡ true) → IfSome h IsHandle → Good command 1 (option_map byte_string h)
+good_handle command None is h = good_none command 1
+good_handle command (Some b) is h = good_bytes command 1 b (omega arith) (omega (arith, h)) (is b h)
+
 good_sign : (s : SignRequest) → IsSign s → AllGood 10 (sign_rows s)
 good_sign s is =
-    let handle = within 16 16 s.handle (omega (arith, is.handle)) (omega (arith, is.handle)) in
     let label = within 0 64 s.label (omega arith) is.label in
     let text = within 0 2048 s.message (omega arith) is.message in (
-      good_bytes 10 1 s.handle (omega arith) (omega (arith, is.handle)) (rw handle refl),
+      good_handle 10 s.handle (λ b h. rw (is_16 b h) refl) is.handle,
       (
         good_label 10 s.label (rw label refl) is.label,
         (
@@ -197,12 +223,11 @@ good_sign s is =
 
 good_seal : (s : SealRequest) → IsSeal s → AllGood 11 (seal_rows s)
 good_seal s is =
-    let handle = within 16 16 s.handle (omega (arith, is.handle)) (omega (arith, is.handle)) in
     let label = within 0 64 s.label (omega arith) is.label in
     let text = within 0 2048 s.plain (omega arith) is.plain in
     let localities = le-leb s.localities 255 is.localities in
     let modes = le-leb s.modes 15 is.modes in (
-      good_bytes 11 1 s.handle (omega arith) (omega (arith, is.handle)) (rw handle refl),
+      good_handle 11 s.handle (λ b h. rw (is_16 b h) refl) is.handle,
       (
         good_label 11 s.label (rw label refl) is.label,
         (
@@ -220,10 +245,9 @@ good_seal s is =
 
 good_unseal : (u : UnsealRequest) → IsUnseal u → AllGood 12 (unseal_rows u)
 good_unseal u is =
-    let handle = within 16 16 u.handle (omega (arith, is.handle)) (omega (arith, is.handle)) in
     let label = within 0 64 u.label (omega arith) is.label in
     let text = within 0 3900 u.sealed (omega arith) is.sealed in (
-      good_bytes 12 1 u.handle (omega arith) (omega (arith, is.handle)) (rw handle refl),
+      good_handle 12 u.handle (λ b h. rw (is_16 b h) refl) is.handle,
       (
         good_label 12 u.label (rw label refl) is.label,
         (
@@ -233,13 +257,14 @@ good_unseal u is =
       ),
     )
 
-good_rotate : (h : List ℕ) → IsHandle h → AllGood 14 (command_rows (rotate h))
-good_rotate h is = let handle = within 16 16 h (omega (arith, is)) (omega (arith, is)) in (good_bytes 14 1 h (omega arith) (omega (arith, is)) (rw handle refl), tt)
+good_initialize : (default : Bool) → AllGood 7 (command_rows (initialize default))
+good_initialize default = (good_if 7 2 default (omega arith) refl, tt)
 
-good_destroy : (h : List ℕ) (recursive : Bool) → IsHandle h → AllGood 15 (command_rows (destroy h recursive))
-good_destroy h recursive is =
-    let handle = within 16 16 h (omega (arith, is)) (omega (arith, is)) in
-    (good_bytes 15 1 h (omega arith) (omega (arith, is)) (rw handle refl), (good_if 15 2 recursive (omega arith) refl, tt))
+good_rotate : (h : Option (List ℕ)) (default : Bool) → IfSome h IsHandle → AllGood 14 (command_rows (rotate h default))
+good_rotate h default is = (good_handle 14 h (λ b h. rw (is_16 b h) refl) is, (good_if 14 2 default (omega arith) refl, tt))
+
+good_destroy : (h : Option (List ℕ)) (recursive : Bool) → IfSome h IsHandle → AllGood 15 (command_rows (destroy h recursive))
+good_destroy h recursive is = (good_handle 15 h (λ b h. rw (is_16 b h) refl) is, (good_if 15 2 recursive (omega arith) refl, tt))
 
 good_inline : (c : Configuration) → IsConfiguration c → Good 8 3 (inline_value c)
 good_inline (inline b) is = let fits = within 64 64 b (omega (arith, is)) (omega (arith, is)) in good_bytes 8 3 b (omega arith) (omega (arith, is)) (rw fits refl)
@@ -259,11 +284,10 @@ good_locality (Some n) is = let fits = le-leb n 7 is in good_number 8 10 n (omeg
 
 good_derive : (d : DeriveRequest) → IsDerive d → AllGood 8 (derive_rows d)
 good_derive d is =
-    let handle = within 16 16 d.handle (omega (arith, is.handle)) (omega (arith, is.handle)) in
     let code = within 64 64 d.code (omega (arith, is.code)) (omega (arith, is.code)) in
     let authority = within 64 64 d.authority (omega (arith, is.authority)) (omega (arith, is.authority)) in
     let mode = le-leb d.mode 3 is.mode in (
-      good_bytes 8 1 d.handle (omega arith) (omega (arith, is.handle)) (rw handle refl),
+      good_handle 8 d.handle (λ b h. rw (is_16 b h) refl) is.handle,
       (
         good_bytes 8 2 d.code (omega arith) (omega (arith, is.code)) (rw code refl),
         (
@@ -280,7 +304,7 @@ good_derive d is =
                     good_if 8 8 d.retain (omega arith) refl,
                     (
                       good_unless 8 9 d.may_derive (omega arith) refl,
-                      (good_locality d.locality is.locality, tt),
+                      (good_locality d.locality is.locality, (good_if 8 12 d.child_default (omega arith) refl, tt)),
                     ),
                   ),
                 ),
@@ -295,12 +319,12 @@ good_derive d is =
 
 rising : (r : Request) → RiseAfter None (command_rows r)
 rising get_profile = tt
-rising initialize = tt
-rising (derive d) = (tt, (omega arith, (omega arith, (omega arith, (omega arith, (omega arith, (omega arith, (omega arith, (omega arith, (omega arith, tt))))))))))
+rising (initialize default) = (tt, tt)
+rising (derive d) = (tt, (omega arith, (omega arith, (omega arith, (omega arith, (omega arith, (omega arith, (omega arith, (omega arith, (omega arith, (omega arith, tt)))))))))))
 rising (sign s) = (tt, (omega arith, (omega arith, (omega arith, (omega arith, tt)))))
 rising (seal s) = (tt, (omega arith, (omega arith, (omega arith, (omega arith, (omega arith, tt))))))
 rising (unseal u) = (tt, (omega arith, (omega arith, (omega arith, tt))))
-rising (rotate h) = (tt, tt)
+rising (rotate h default) = (tt, (omega arith, tt))
 rising (destroy h recursive) = (tt, (omega arith, tt))
 
 abbrev map_in : Request → FlatMap
@@ -308,12 +332,12 @@ map_in r = present (command_rows r)
 
 good : (r : Request) → InRanges r → AllGood (number_of_request r) (command_rows r)
 good get_profile is = tt
-good initialize is = tt
+good (initialize default) is = good_initialize default
 good (derive d) is = good_derive d is
 good (sign s) is = good_sign s is
 good (seal s) is = good_seal s is
 good (unseal u) is = good_unseal u is
-good (rotate h) is = good_rotate h is
+good (rotate h default) is = good_rotate h default is
 good (destroy h recursive) is = good_destroy h recursive is
 
 at : (r : Request) (key : ℕ) → value_at key (map_in r) ≡ look key (command_rows r)
@@ -326,40 +350,36 @@ empty_class : (k : ℕ) → class_of 1 [] ≡ accepted get_profile
 unfolding class_of request
 empty_class k = refl
 
-initialize_class : (k : ℕ) → class_of 7 [] ≡ accepted initialize
-unfolding class_of request
-initialize_class k = refl
-
 map_class : (r : Request) → InRanges r → class_of (number_of_request r) (map_in r) ≡ accepted r
 map_class get_profile is = empty_class 0
-map_class initialize is = initialize_class 0
+map_class (initialize default) is = let r = initialize default in initialize_class (map_in r) default (all_in r is) (at r 1) (at r 2)
 map_class (derive d) is =
     let r = derive d in
-    derive_class (map_in r) d (all_in r is) (at r 1) (at r 2) (at r 3) (at r 4) (at r 5) (at r 6) (at r 7) (at r 8) (at r 9) (at r 10) (at r 11)
+    derive_class (map_in r) d (all_in r is) (at r 1) (at r 2) (at r 3) (at r 4) (at r 5) (at r 6) (at r 7) (at r 8) (at r 9) (at r 10) (at r 11) (at r 12)
 map_class (sign s) is = let r = sign s in sign_class (map_in r) s (all_in r is) (at r 1) (at r 2) (at r 3) (at r 4) (at r 5)
 map_class (seal s) is = let r = seal s in seal_class (map_in r) s (all_in r is) (at r 1) (at r 2) (at r 3) (at r 4) (at r 5) (at r 6)
 map_class (unseal u) is = let r = unseal u in unseal_class (map_in r) u (all_in r is) (at r 1) (at r 2) (at r 3) (at r 4) (at r 5)
-map_class (rotate h) is = let r = rotate h in rotate_class (map_in r) h (all_in r is) (at r 1) (at r 2)
+map_class (rotate h default) is = let r = rotate h default in rotate_class (map_in r) h default (all_in r is) (at r 1) (at r 2)
 map_class (destroy h recursive) is = let r = destroy h recursive in destroy_class (map_in r) h recursive (all_in r is) (at r 1) (at r 2)
 
 number_small : (r : Request) → number_of_request r < 2 ^ 64
 number_small get_profile = omega arith
-number_small initialize = omega arith
+number_small (initialize default) = omega arith
 number_small (derive d) = omega arith
 number_small (sign s) = omega arith
 number_small (seal s) = omega arith
 number_small (unseal u) = omega arith
-number_small (rotate h) = omega arith
+number_small (rotate h default) = omega arith
 number_small (destroy h recursive) = omega arith
 
-few_rows : (r : Request) → length (command_rows r) ≤ 10
+few_rows : (r : Request) → length (command_rows r) ≤ 11
 few_rows get_profile = omega arith
-few_rows initialize = omega arith
+few_rows (initialize default) = omega arith
 few_rows (derive d) = omega arith
 few_rows (sign s) = omega arith
 few_rows (seal s) = omega arith
 few_rows (unseal u) = omega arith
-few_rows (rotate h) = omega arith
+few_rows (rotate h default) = omega arith
 few_rows (destroy h recursive) = omega arith
 
 pub commands_back : (r : Request) → InRanges r → class (command_payload r) ≡ accepted r

@@ -20,13 +20,13 @@ use Rattle.dpe_messages.proofs.RangeLemmas.{by_number, right_in_ranges}
 
 -- the values at the keys of the slots
 abbrev below : FlatMap → ℕ → Option Value
-below m key = cond (ltb key 12) (value_at key m) None
+below m key = cond (ltb key 13) (value_at key m) None
 
 value_is : (table : List Argument) (s : Slots) (m : FlatMap) → Holds table s m → (key : ℕ) → value_in s key ≡ below m key
 value_is table s m holds key =
-    elim (cases_lt key 12) [
-      | inl lt ↦ rw (lt-ltb key 12 lt) (holds.value key lt)
-      | inr le ↦ rw (le-ltb key 12 le) (ap (option_map view) (get_or_past s.values key None (omega (arith, holds.len, le))))
+    elim (cases_lt key 13) [
+      | inl lt ↦ rw (lt-ltb key 13 lt) (holds.value key lt)
+      | inr le ↦ rw (le-ltb key 13 le) (ap (option_map view) (get_or_past s.values key None (omega (arith, holds.len, le))))
     ]
 
 values_are : (table : List Argument) (s : Slots) (m : FlatMap) → Holds table s m → value_in s ≡ below m

@@ -57,12 +57,12 @@ optional_bytes most (Some v) passes = (required_bytes 0 most (Some v) refl passe
 exact_bytes : (n : ℕ) (o : Option Value) → is_some o ≡ true → Passes (BytesBetween n n) o → length (bytes_or [] o) ≡ n
 exact_bytes n o some passes = let fits = required_bytes n n o some passes in omega (arith, fits.0, fits.1)
 
-input_if : (o : Option Value) → Passes (BytesBetween 64 64) o → IfSome (bytes_if o) IsInput
-input_if None passes = tt
-input_if (Some (byte_string b)) passes = exact_bytes 64 (Some (byte_string b)) refl passes
-input_if (Some (number n)) passes = tt
-input_if (Some (text_string t)) passes = tt
-input_if (Some (truth t)) passes = tt
+exact_if : (n : ℕ) (o : Option Value) → Passes (BytesBetween n n) o → IfSome (bytes_if o) (λ b. length b ≡ n)
+exact_if n None passes = tt
+exact_if n (Some (byte_string b)) passes = exact_bytes n (Some (byte_string b)) refl passes
+exact_if n (Some (number k)) passes = tt
+exact_if n (Some (text_string t)) passes = tt
+exact_if n (Some (truth t)) passes = tt
 
 some_number : (most default : ℕ) (o : Option Value) → default ≤ most → Passes (NumberUpTo most) o → number_or default o ≤ most
 some_number most default None le passes = le
@@ -101,29 +101,25 @@ right table m e =
 derive_right : (m : FlatMap) → is_right derive_arguments m ≡ true → IsDerive (derive_from (λ key. value_at key m))
 derive_right m e =
     let is = right derive_arguments m e in
-    let from_1 = is.required in
-    let s1 = is_some (value_at 1 m) in
     let s2 = is_some (value_at 2 m) in
     let s5 = is_some (value_at 5 m) in
     let s6 = is_some (value_at 6 m) in
-    let after_1 : (s2 && (s5 && (s6 && true))) ≡ true = and_right s1 (s2 && (s5 && (s6 && true))) is.required in
-    let after_2 : (s5 && (s6 && true)) ≡ true = and_right s2 (s5 && (s6 && true)) after_1 in
+    let after_2 : (s5 && (s6 && true)) ≡ true = and_right s2 (s5 && (s6 && true)) is.required in
     record {
-      handle = exact_bytes 16 (value_at 1 m) (and_left s1 (s2 && (s5 && (s6 && true))) is.required) (is.at 1);
-      code = exact_bytes 64 (value_at 2 m) (and_left s2 (s5 && (s6 && true)) after_1) (is.at 2);
+      handle = exact_if 16 (value_at 1 m) (is.at 1);
+      code = exact_bytes 64 (value_at 2 m) (and_left s2 (s5 && (s6 && true)) is.required) (is.at 2);
       config = configuration (value_at 3 m) (value_at 4 m) (is.at 3) (is.at 4);
       authority = exact_bytes 64 (value_at 5 m) (and_left s5 (s6 && true) after_2) (is.at 5);
       mode = some_number 3 0 (value_at 6 m) (omega arith) (is.at 6);
-      hidden = input_if (value_at 7 m) (is.at 7);
+      hidden = exact_if 64 (value_at 7 m) (is.at 7);
       locality = number_there 7 (value_at 10 m) (is.at 10);
     }
 
 sign_right : (m : FlatMap) → is_right sign_arguments m ≡ true → IsSign (sign_from (λ key. value_at key m))
 sign_right m e =
     let is = right sign_arguments m e in
-    let rest = is_some (value_at 5 m) && true in
     record {
-      handle = exact_bytes 16 (value_at 1 m) (and_left (is_some (value_at 1 m)) rest is.required) (is.at 1);
+      handle = exact_if 16 (value_at 1 m) (is.at 1);
       label = optional_bytes 64 (value_at 2 m) (is.at 2);
       message = optional_bytes 2048 (value_at 5 m) (is.at 5);
     }
@@ -131,9 +127,8 @@ sign_right m e =
 seal_right : (m : FlatMap) → is_right seal_arguments m ≡ true → IsSeal (seal_from (λ key. value_at key m))
 seal_right m e =
     let is = right seal_arguments m e in
-    let rest = is_some (value_at 6 m) && true in
     record {
-      handle = exact_bytes 16 (value_at 1 m) (and_left (is_some (value_at 1 m)) rest is.required) (is.at 1);
+      handle = exact_if 16 (value_at 1 m) (is.at 1);
       label = optional_bytes 64 (value_at 2 m) (is.at 2);
       localities = some_number 255 255 (value_at 4 m) (omega arith) (is.at 4);
       modes = some_number 15 15 (value_at 5 m) (omega arith) (is.at 5);
@@ -143,33 +138,32 @@ seal_right m e =
 unseal_right : (m : FlatMap) → is_right unseal_arguments m ≡ true → IsUnseal (unseal_from (λ key. value_at key m))
 unseal_right m e =
     let is = right unseal_arguments m e in
-    let rest = is_some (value_at 5 m) && true in
     record {
-      handle = exact_bytes 16 (value_at 1 m) (and_left (is_some (value_at 1 m)) rest is.required) (is.at 1);
+      handle = exact_if 16 (value_at 1 m) (is.at 1);
       label = optional_bytes 64 (value_at 2 m) (is.at 2);
       sealed = optional_bytes 3900 (value_at 5 m) (is.at 5);
     }
 
-rotate_right : (m : FlatMap) → is_right rotate_arguments m ≡ true → IsHandle (bytes_or [] (value_at 1 m))
-rotate_right m e = let is = right rotate_arguments m e in exact_bytes 16 (value_at 1 m) (and_left (is_some (value_at 1 m)) true is.required) (is.at 1)
+rotate_right : (m : FlatMap) → is_right rotate_arguments m ≡ true → IfSome (bytes_if (value_at 1 m)) IsHandle
+rotate_right m e = let is = right rotate_arguments m e in exact_if 16 (value_at 1 m) (is.at 1)
 
-destroy_right : (m : FlatMap) → is_right destroy_arguments m ≡ true → IsHandle (bytes_or [] (value_at 1 m))
-destroy_right m e = let is = right destroy_arguments m e in exact_bytes 16 (value_at 1 m) (and_left (is_some (value_at 1 m)) true is.required) (is.at 1)
+destroy_right : (m : FlatMap) → is_right destroy_arguments m ≡ true → IfSome (bytes_if (value_at 1 m)) IsHandle
+destroy_right m e = let is = right destroy_arguments m e in exact_if 16 (value_at 1 m) (is.at 1)
 
 -- a fact on each table and its request holds of those of each number
 pub by_number : (P : List Argument → ((ℕ → Option Value) → Request) → Type 0)
-    → P initialize_arguments (λ at. initialize)
+    → P initialize_arguments (λ at. initialize (truth_or false (at 2)))
     → P derive_arguments (λ at. derive (derive_from at))
     → P sign_arguments (λ at. sign (sign_from at))
     → P seal_arguments (λ at. seal (seal_from at))
     → P unseal_arguments (λ at. unseal (unseal_from at))
-    → P rotate_arguments (λ at. rotate (bytes_or [] (at 1)))
-    → P destroy_arguments (λ at. destroy (bytes_or [] (at 1)) (truth_or false (at 2)))
+    → P rotate_arguments (λ at. rotate (bytes_if (at 1)) (truth_or false (at 2)))
+    → P destroy_arguments (λ at. destroy (bytes_if (at 1)) (truth_or false (at 2)))
     → P [] (λ at. get_profile)
     → (n : ℕ) → P (arguments n) (request_from n)
 by_number P i d s e u r x g n = go (eqb n 7) (eqb n 8) (eqb n 10) (eqb n 11) (eqb n 12) (eqb n 14) (eqb n 15) where
   go : (a b c d e f g : Bool) → P (cond a initialize_arguments (cond b derive_arguments (cond c sign_arguments (cond d seal_arguments (cond e unseal_arguments (cond f rotate_arguments (cond g destroy_arguments [])))))))
-      (λ at. cond a initialize (cond b (derive (derive_from at)) (cond c (sign (sign_from at)) (cond d (seal (seal_from at)) (cond e (unseal (unseal_from at)) (cond f (rotate (bytes_or [] (at 1))) (cond g (destroy (bytes_or [] (at 1)) (truth_or false (at 2))) get_profile)))))))
+      (λ at. cond a (initialize (truth_or false (at 2))) (cond b (derive (derive_from at)) (cond c (sign (sign_from at)) (cond d (seal (seal_from at)) (cond e (unseal (unseal_from at)) (cond f (rotate (bytes_if (at 1)) (truth_or false (at 2))) (cond g (destroy (bytes_if (at 1)) (truth_or false (at 2))) get_profile)))))))
   go true _ _ _ _ _ _ = i
   go false true _ _ _ _ _ = d
   go false false true _ _ _ _ = s

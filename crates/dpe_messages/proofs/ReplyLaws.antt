@@ -79,22 +79,22 @@ answer_sound asked.Unseal s r e = made_sound 0 longest_plaintext s r e
 answer_sound asked.Rotate s r e = new_handle_sound s r e
 answer_sound asked.Destroy s r e = done_sound s r e
 
-is_refusal_code : (code : ℕ) → (eqb code 2 || (eqb code 3 || (eqb code 5 || (leb 16 code && leb code 27)))) ≡ true → IsRefusalCode code
+is_refusal_code : (code : ℕ) → (eqb code 2 || (eqb code 3 || (eqb code 5 || (leb 16 code && leb code 29)))) ≡ true → IsRefusalCode code
 is_refusal_code code e =
-    elim (either_true (eqb code 2) (eqb code 3 || (eqb code 5 || (leb 16 code && leb code 27))) e) [
+    elim (either_true (eqb code 2) (eqb code 3 || (eqb code 5 || (leb 16 code && leb code 29))) e) [
       | inl t ↦ inl (eqb-true code 2 t)
-      | inr t ↦ elim (either_true (eqb code 3) (eqb code 5 || (leb 16 code && leb code 27)) t) [
+      | inr t ↦ elim (either_true (eqb code 3) (eqb code 5 || (leb 16 code && leb code 29)) t) [
         | inl u ↦ inr (inl (eqb-true code 3 u))
-        | inr u ↦ elim (either_true (eqb code 5) (leb 16 code && leb code 27) u) [
+        | inr u ↦ elim (either_true (eqb code 5) (leb 16 code && leb code 29) u) [
           | inl w ↦ inr (inr (inl (eqb-true code 5 w)))
-          | inr w ↦ let range = both_true (leb 16 code) (leb code 27) w in inr (inr (inr (leb-true 16 code range.0, leb-true code 27 range.1)))
+          | inr w ↦ let range = both_true (leb 16 code) (leb code 29) w in inr (inr (inr (leb-true 16 code range.0, leb-true code 29 range.1)))
         ]
       ]
     ]
 
 refused_sound : (code : ℕ) (s : Strings) (r : Response) → refused_in code s ≡ Some r → IsRefusal r × Agrees code s r
 refused_sound code (None, None) r e =
-    let test = passed (eqb code 2 || (eqb code 3 || (eqb code 5 || (leb 16 code && leb code 27)))) (Some (refused code)) r e in
+    let test = passed (eqb code 2 || (eqb code 3 || (eqb code 5 || (leb 16 code && leb code 29)))) (Some (refused code)) r e in
     subst (λ (t : Response). IsRefusal t × Agrees code (None, None) t) (some_is (refused code) r test.1) ((code, is_refusal_code code test.0, refl), (refl, refl))
 refused_sound code (None, Some g) r e = absurd cc
 refused_sound code (Some f, second) r e = absurd cc
@@ -186,20 +186,20 @@ answer_complete asked.Unseal r other is = made_complete 0 longest_plaintext r is
 answer_complete asked.Rotate r other is = new_handle_complete r is
 answer_complete asked.Destroy r other is = subst (λ (t : Response). done_in (strings_in t) ≡ Some t) (sym is) refl
 
-code_tests : (code : ℕ) → IsRefusalCode code → (eqb code 2 || (eqb code 3 || (eqb code 5 || (leb 16 code && leb code 27)))) ≡ true
+code_tests : (code : ℕ) → IsRefusalCode code → (eqb code 2 || (eqb code 3 || (eqb code 5 || (leb 16 code && leb code 29)))) ≡ true
 code_tests code (inl is) = let t = eq-eqb code 2 is in rw t refl
 code_tests code (inr (inl is)) = let t = eq-eqb code 3 is in rw t (or_true (eqb code 2))
   where
     or_true : (a : Bool) → (a || true) ≡ true
     or_true true = refl
     or_true false = refl
-code_tests code (inr (inr (inl is))) = subst (λ (n : ℕ). (eqb n 2 || (eqb n 3 || (eqb n 5 || (leb 16 n && leb n 27)))) ≡ true) (sym is) refl
+code_tests code (inr (inr (inl is))) = subst (λ (n : ℕ). (eqb n 2 || (eqb n 3 || (eqb n 5 || (leb 16 n && leb n 29)))) ≡ true) (sym is) refl
 code_tests code (inr (inr (inr is))) =
     let a : eqb code 2 ≡ false = ne_eqb code 2 (λ e. absurd (omega (arith, e, is.0))) in
     let b : eqb code 3 ≡ false = ne_eqb code 3 (λ e. absurd (omega (arith, e, is.0))) in
     let d : eqb code 5 ≡ false = ne_eqb code 5 (λ e. absurd (omega (arith, e, is.0))) in
     let low = le-leb 16 code is.0 in
-    let high = le-leb code 27 is.1 in
+    let high = le-leb code 29 is.1 in
     rw (a, b, d, low, high) refl
 
 refused_complete : (code : ℕ) → IsRefusalCode code → refused_in code (None, None) ≡ Some (refused code)

@@ -77,11 +77,11 @@ IsNew-more last key v m may new k lt =
     let differs : key ≢ k = omega (arith, lt) in
     value_at-append k m ((key, v) ∷ []) ∙ rw (new k (follows_on last key k may lt), ne_eqb key k differs) refl
 
-put_at : (values : List (Option Found)) (key : ℕ) (found : Found) (k : ℕ) (b : Bool) → length values ≡ 12 → ltb key 12 ≡ b → k < 12 → ((key ≡ k) ⊎ (key ≢ k))
+put_at : (values : List (Option Found)) (key : ℕ) (found : Found) (k : ℕ) (b : Bool) → length values ≡ 13 → ltb key 13 ≡ b → k < 13 → ((key ≡ k) ⊎ (key ≢ k))
     → get_or (cond b (set values key (Some found)) values) k None ≡ cond (eqb key k) (Some found) (get_or values k None)
-put_at values key found k true len e lt (inl is) = rw (eq-eqb key k is, sym is) (get_or-set_same values key (Some found) None (omega (arith, ltb-true key 12 e, len)))
+put_at values key found k true len e lt (inl is) = rw (eq-eqb key k is, sym is) (get_or-set_same values key (Some found) None (omega (arith, ltb-true key 13 e, len)))
 put_at values key found k true len e lt (inr not) = rw (ne_eqb key k not) (get_or-set_other values key k (Some found) None (λ q. not (sym q)))
-put_at values key found k false len e lt (inl is) = absurd (omega (arith, ltb-false key 12 e, is, lt))
+put_at values key found k false len e lt (inl is) = absurd (omega (arith, ltb-false key 13 e, is, lt))
 put_at values key found k false len e lt (inr not) = rw (ne_eqb key k not) refl
 
 discrete : (a b : ℕ) → (a ≡ b) ⊎ (a ≢ b)
@@ -94,7 +94,7 @@ map_cond : (b : Bool) (found : Found) (o : Option Found) → option_map view (co
 map_cond true found o = refl
 map_cond false found o = refl
 
-length_put : (b : Bool) (values : List (Option Found)) (key : ℕ) (o : Option Found) → length values ≡ 12 → length (cond b (set values key o) values) ≡ 12
+length_put : (b : Bool) (values : List (Option Found)) (key : ℕ) (o : Option Found) → length values ≡ 13 → length (cond b (set values key o) values) ≡ 13
 length_put true values key o len = length-set values key o ∙ len
 length_put false values key o len = len
 
@@ -117,9 +117,9 @@ at_end last key v m may new k false o e same =
 pub Holds-more : (table : List Argument) (s : Slots) (m : FlatMap) (last : Option ℕ) (key : ℕ) (found : Found) → Holds table s m → IsNew last m → MayFollow last key
     → Holds table (with_pair table key found s) (m ++ (key, view found) ∷ [])
 Holds-more table s m last key found holds new may = record {
-  len = length_put (ltb key 12) s.values key (Some found) holds.len;
+  len = length_put (ltb key 13) s.values key (Some found) holds.len;
   value = λ k lt.
-      ap (option_map view) (put_at s.values key found k (ltb key 12) holds.len refl lt (discrete key k))
+      ap (option_map view) (put_at s.values key found k (ltb key 13) holds.len refl lt (discrete key k))
       ∙ map_cond (eqb key k) found (get_or s.values k None)
       ∙ at_end last key (view found) m may new k (eqb key k) (get_or s.values k None) refl (holds.value k lt);
   tested = ap (λ (b : Bool). b && is_argument table (key, view found)) holds.tested ∙ all_so_far table m (key, view found);
@@ -147,9 +147,9 @@ nothing_below n key =
       | inr le ↦ ap (option_map view) (get_or_past (replicate n None) key None (rw length-replicate le))
     ]
 
-pub Holds-none : (table : List Argument) (s : Slots) → s.values ≡ replicate 12 None → s.all_in_table ≡ true → Holds table s []
+pub Holds-none : (table : List Argument) (s : Slots) → s.values ≡ replicate 13 None → s.all_in_table ≡ true → Holds table s []
 Holds-none table s empty tested = record {
   len = rw empty refl;
-  value = λ key lt. rw empty (nothing_below 12 key);
+  value = λ key lt. rw empty (nothing_below 13 key);
   tested = tested;
 }

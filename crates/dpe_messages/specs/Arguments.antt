@@ -31,12 +31,12 @@ flag key outside = record { key = key; range = Boolean; presence = Optional; out
 abbrev pub initialize_arguments : List Argument
 initialize_arguments =
     flag 1 IfTrue  -- simulation
-    ∷ flag 2 IfTrue  -- use-default-context
+    ∷ argument 2 Boolean Optional  -- use-default-context
     ∷ []
 
 abbrev pub derive_arguments : List Argument
 derive_arguments =
-    argument 1 handle Required  -- handle
+    argument 1 handle Optional  -- handle
     ∷ argument 2 input Required  -- code
     ∷ argument 3 input OneOfTwo  -- configuration
     ∷ argument 4 (BytesBetween 0 1024) OneOfTwo  -- configuration descriptor
@@ -47,11 +47,12 @@ derive_arguments =
     ∷ argument 9 Boolean Optional  -- may-derive
     ∷ argument 10 (NumberUpTo 7) Optional  -- target locality
     ∷ flag 11 IfTrue  -- create-certificate
+    ∷ argument 12 Boolean Optional  -- child-default
     ∷ []
 
 abbrev pub sign_arguments : List Argument
 sign_arguments =
-    argument 1 handle Required  -- handle
+    argument 1 handle Optional  -- handle
     ∷ argument 2 label Optional  -- label
     ∷ argument 3 Boolean Optional  -- retain-context
     ∷ flag 4 UnlessTrue  -- is-symmetric
@@ -60,7 +61,7 @@ sign_arguments =
 
 abbrev pub seal_arguments : List Argument
 seal_arguments =
-    argument 1 handle Required  -- handle
+    argument 1 handle Optional  -- handle
     ∷ argument 2 label Optional  -- label
     ∷ argument 3 Boolean Optional  -- retain-context
     ∷ argument 4 (NumberUpTo 255) Optional  -- localities
@@ -70,7 +71,7 @@ seal_arguments =
 
 abbrev pub unseal_arguments : List Argument
 unseal_arguments =
-    argument 1 handle Required  -- handle
+    argument 1 handle Optional  -- handle
     ∷ argument 2 label Optional  -- label
     ∷ argument 3 Boolean Optional  -- retain-context
     ∷ flag 4 IfTrue  -- is-asymmetric
@@ -79,13 +80,13 @@ unseal_arguments =
 
 abbrev pub rotate_arguments : List Argument
 rotate_arguments =
-    argument 1 handle Required  -- handle
-    ∷ flag 2 IfTrue  -- to-be-default
+    argument 1 handle Optional  -- handle
+    ∷ argument 2 Boolean Optional  -- to-be-default
     ∷ []
 
 abbrev pub destroy_arguments : List Argument
 destroy_arguments =
-    argument 1 handle Required  -- handle
+    argument 1 handle Optional  -- handle
     ∷ argument 2 Boolean Optional  -- destroy-recursively
     ∷ []
 

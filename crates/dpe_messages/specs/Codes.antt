@@ -15,5 +15,5 @@ abbrev pub unsupported : ℕ
 unsupported = 16
 
 -- and the last of them
-abbrev pub root_locality : ℕ
-root_locality = 27
+abbrev pub default_taken : ℕ
+default_taken = 29

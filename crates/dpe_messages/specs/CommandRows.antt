@@ -37,7 +37,7 @@ descriptor_value (descriptor d) = Some (byte_string d)
 
 abbrev pub derive_rows : DeriveRequest → List Row
 derive_rows d =
-    (1, Some (byte_string d.handle))
+    (1, option_map byte_string d.handle)
     ∷ (2, Some (byte_string d.code))
     ∷ (3, inline_value d.config)
     ∷ (4, descriptor_value d.config)
@@ -47,11 +47,12 @@ derive_rows d =
     ∷ (8, if_true d.retain)
     ∷ (9, unless_true d.may_derive)
     ∷ (10, option_map number d.locality)
+    ∷ (12, if_true d.child_default)
     ∷ []
 
 abbrev pub sign_rows : SignRequest → List Row
 sign_rows s =
-    (1, Some (byte_string s.handle))
+    (1, option_map byte_string s.handle)
     ∷ (2, unless_empty s.label)
     ∷ (3, if_true s.retain)
     ∷ (4, Some (truth true))
@@ -60,7 +61,7 @@ sign_rows s =
 
 abbrev pub seal_rows : SealRequest → List Row
 seal_rows s =
-    (1, Some (byte_string s.handle))
+    (1, option_map byte_string s.handle)
     ∷ (2, unless_empty s.label)
     ∷ (3, if_true s.retain)
     ∷ (4, unless_number 255 s.localities)
@@ -70,7 +71,7 @@ seal_rows s =
 
 abbrev pub unseal_rows : UnsealRequest → List Row
 unseal_rows u =
-    (1, Some (byte_string u.handle))
+    (1, option_map byte_string u.handle)
     ∷ (2, unless_empty u.label)
     ∷ (3, if_true u.retain)
     ∷ (5, Some (byte_string u.sealed))
@@ -78,22 +79,22 @@ unseal_rows u =
 
 abbrev pub command_rows : Request → List Row
 command_rows get_profile = []
-command_rows initialize = []
+command_rows (initialize default) = (2, if_true default) ∷ []
 command_rows (derive d) = derive_rows d
 command_rows (sign s) = sign_rows s
 command_rows (seal s) = seal_rows s
 command_rows (unseal u) = unseal_rows u
-command_rows (rotate handle) = (1, Some (byte_string handle)) ∷ []
-command_rows (destroy handle recursive) = (1, Some (byte_string handle)) ∷ (2, if_true recursive) ∷ []
+command_rows (rotate handle default) = (1, option_map byte_string handle) ∷ (2, if_true default) ∷ []
+command_rows (destroy handle recursive) = (1, option_map byte_string handle) ∷ (2, if_true recursive) ∷ []
 
 abbrev pub number_of_request : Request → ℕ
 number_of_request get_profile = command.get_profile
-number_of_request initialize = command.initialize_context
+number_of_request (initialize default) = command.initialize_context
 number_of_request (derive d) = command.derive_context
 number_of_request (sign s) = command.sign
 number_of_request (seal s) = command.seal
 number_of_request (unseal u) = command.unseal
-number_of_request (rotate handle) = command.rotate_context_handle
+number_of_request (rotate handle default) = command.rotate_context_handle
 number_of_request (destroy handle recursive) = command.destroy_context
 
 abbrev pub command_payload : Request → List ℕ
@@ -118,10 +119,10 @@ pub record IsDeriveWritable (d : Derive) : Type 0 where
 
 abbrev pub IsCommandWritable : Command → Type 0
 IsCommandWritable commands.GetProfile = Unit {0}
-IsCommandWritable commands.Initialize = Unit {0}
+IsCommandWritable (commands.Initialize default) = Unit {0}
 IsCommandWritable (commands.Derive d) = IsDeriveWritable d
 IsCommandWritable (commands.Sign s) = (length s.label.now ≤ 64) × (length s.message.now ≤ 2048)
 IsCommandWritable (commands.Seal s) = (length s.label.now ≤ 64) × (s.modes ≤ 15) × (length s.plain.now ≤ 2048)
 IsCommandWritable (commands.Unseal u) = (length u.label.now ≤ 64) × (length u.sealed.now ≤ 3900)
-IsCommandWritable (commands.Rotate handle) = Unit {0}
+IsCommandWritable (commands.Rotate handle default) = Unit {0}
 IsCommandWritable (commands.Destroy handle recursive) = Unit {0}

@@ -1,5 +1,6 @@
 -- A command as the request that it makes, apart from where its arguments lie in memory.
-use Rattle.std.specs.Prelude.{ℕ, Result, Ok, Err}
+use Rattle.std.specs.Prelude.{ℕ, List, Option, Result, Ok, Err}
+use Rattle.std.specs.Borrow.{Bor}
 use Rattle.std.specs.Option.{option_map}
 use Rattle.dpe_messages.specs.declared.command.Config.{Config}
 use Rattle.dpe_messages.specs.declared.command.Config.TheVariants.{Inline, Descriptor}
@@ -19,9 +20,13 @@ abbrev pub configuration_of : Config → Configuration
 configuration_of (Inline b) = inline b.now
 configuration_of (Descriptor b) = descriptor b.now
 
+-- the bytes of a lent handle, if there is one
+abbrev pub name_of : Option (Bor (List ℕ)) → Option (List ℕ)
+name_of handle = option_map (λ h. h.now) handle
+
 abbrev pub derive_request : Derive → DeriveRequest
 derive_request d = record {
-  handle = d.handle.now;
+  handle = name_of d.handle;
   code = d.code.now;
   config = configuration_of d.config;
   authority = d.authority.now;
@@ -30,14 +35,15 @@ derive_request d = record {
   retain = d.retain;
   may_derive = d.may_derive;
   locality = d.locality;
+  child_default = d.child_default;
 }
 
 abbrev pub sign_request : Sign → SignRequest
-sign_request s = record { handle = s.handle.now; label = s.label.now; retain = s.retain; message = s.message.now }
+sign_request s = record { handle = name_of s.handle; label = s.label.now; retain = s.retain; message = s.message.now }
 
 abbrev pub seal_request : Seal → SealRequest
 seal_request s = record {
-  handle = s.handle.now;
+  handle = name_of s.handle;
   label = s.label.now;
   retain = s.retain;
   localities = s.localities;
@@ -46,17 +52,17 @@ seal_request s = record {
 }
 
 abbrev pub unseal_request : Unseal → UnsealRequest
-unseal_request u = record { handle = u.handle.now; label = u.label.now; retain = u.retain; sealed = u.sealed.now }
+unseal_request u = record { handle = name_of u.handle; label = u.label.now; retain = u.retain; sealed = u.sealed.now }
 
 abbrev pub request_of : Command → Request
 request_of commands.GetProfile = get_profile
-request_of commands.Initialize = initialize
+request_of (commands.Initialize default) = initialize default
 request_of (commands.Derive d) = derive (derive_request d)
 request_of (commands.Sign s) = sign (sign_request s)
 request_of (commands.Seal s) = seal (seal_request s)
 request_of (commands.Unseal u) = unseal (unseal_request u)
-request_of (commands.Rotate h) = rotate h.now
-request_of (commands.Destroy h recursive) = destroy h.now recursive
+request_of (commands.Rotate h default) = rotate (name_of h) default
+request_of (commands.Destroy h recursive) = destroy (name_of h) recursive
 
 -- the code of each refusal
 abbrev pub refusal_code : Refusal → ℕ

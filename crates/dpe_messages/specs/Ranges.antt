@@ -18,7 +18,7 @@ IsConfiguration (inline b) = IsInput b
 IsConfiguration (descriptor b) = length b ≤ 1024
 
 pub record IsDerive (d : DeriveRequest) : Type 0 where
-  pub handle : IsHandle d.handle
+  pub handle : IfSome d.handle IsHandle
   pub code : IsInput d.code
   pub config : IsConfiguration d.config
   pub authority : IsInput d.authority
@@ -27,32 +27,32 @@ pub record IsDerive (d : DeriveRequest) : Type 0 where
   pub locality : IfSome d.locality (λ l. l ≤ 7)
 
 pub record IsSign (s : SignRequest) : Type 0 where
-  pub handle : IsHandle s.handle
+  pub handle : IfSome s.handle IsHandle
   pub label : IsLabel s.label
   pub message : length s.message ≤ 2048
 
 pub record IsSeal (s : SealRequest) : Type 0 where
-  pub handle : IsHandle s.handle
+  pub handle : IfSome s.handle IsHandle
   pub label : IsLabel s.label
   pub localities : s.localities ≤ 255
   pub modes : s.modes ≤ 15
   pub plain : length s.plain ≤ 2048
 
 pub record IsUnseal (u : UnsealRequest) : Type 0 where
-  pub handle : IsHandle u.handle
+  pub handle : IfSome u.handle IsHandle
   pub label : IsLabel u.label
   pub sealed : length u.sealed ≤ 3900
 
 -- each argument of the command is in its range
 abbrev pub InRanges : Request → Type 0
 InRanges get_profile = Unit {0}
-InRanges initialize = Unit {0}
+InRanges (initialize default) = Unit {0}
 InRanges (derive d) = IsDerive d
 InRanges (sign s) = IsSign s
 InRanges (seal s) = IsSeal s
 InRanges (unseal u) = IsUnseal u
-InRanges (rotate h) = IsHandle h
-InRanges (destroy h recursive) = IsHandle h
+InRanges (rotate h default) = IfSome h IsHandle
+InRanges (destroy h recursive) = IfSome h IsHandle
 
 -- what the class accepts is in its ranges
 abbrev pub AcceptedInRanges : Type 0
@@ -65,13 +65,13 @@ configuration_bytes (descriptor b) = b
 -- the byte strings among the arguments of a command
 abbrev pub byte_strings : Request → List (List ℕ)
 byte_strings get_profile = []
-byte_strings initialize = []
-byte_strings (derive d) = d.handle ∷ d.code ∷ configuration_bytes d.config ∷ d.authority ∷ unwrap_or d.hidden [] ∷ []
-byte_strings (sign s) = s.handle ∷ s.label ∷ s.message ∷ []
-byte_strings (seal s) = s.handle ∷ s.label ∷ s.plain ∷ []
-byte_strings (unseal u) = u.handle ∷ u.label ∷ u.sealed ∷ []
-byte_strings (rotate h) = h ∷ []
-byte_strings (destroy h recursive) = h ∷ []
+byte_strings (initialize default) = []
+byte_strings (derive d) = unwrap_or d.handle [] ∷ d.code ∷ configuration_bytes d.config ∷ d.authority ∷ unwrap_or d.hidden [] ∷ []
+byte_strings (sign s) = unwrap_or s.handle [] ∷ s.label ∷ s.message ∷ []
+byte_strings (seal s) = unwrap_or s.handle [] ∷ s.label ∷ s.plain ∷ []
+byte_strings (unseal u) = unwrap_or u.handle [] ∷ u.label ∷ u.sealed ∷ []
+byte_strings (rotate h default) = unwrap_or h [] ∷ []
+byte_strings (destroy h recursive) = unwrap_or h [] ∷ []
 
 abbrev pub AllAreBytes : List (List ℕ) → Type 0
 AllAreBytes [] = Unit {0}

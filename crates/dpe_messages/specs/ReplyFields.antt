@@ -2,7 +2,7 @@
 use Rattle.std.specs.Prelude.{ℕ, Bool, ◌==◌, ◌&&◌, ◌||◌, List, [], ◌∷◌, length, Option, Some, None, Result, Ok, Err, nat_le, if◌then◌else◌}
 use Rattle.std.specs.Option.{option_map}
 use Rattle.dpe_cbor.specs.Decoding.{Decoder, ◌>>=◌, both, whole, argument_of, content_of}
-use Rattle.dpe_messages.specs.Codes.{invalid_command, invalid_argument, seed_locked, unsupported, root_locality}
+use Rattle.dpe_messages.specs.Codes.{invalid_command, invalid_argument, seed_locked, unsupported, default_taken}
 use Rattle.dpe_messages.specs.FlatMap.{byte_string}
 use Rattle.dpe_messages.specs.Message.{Row}
 use Rattle.dpe_messages.specs.Reading.{two_of, outer_of}
@@ -75,7 +75,7 @@ is_refusal_code code =
     (code == invalid_command)
     || ((code == invalid_argument)
     || ((code == seed_locked)
-    || (nat_le unsupported code && nat_le code root_locality)))
+    || (nat_le unsupported code && nat_le code default_taken)))
 
 abbrev pub refused_in : ℕ → Strings → Option Response
 refused_in code (None, None) = if is_refusal_code code then Some (refused code) else None

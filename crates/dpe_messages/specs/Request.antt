@@ -1,5 +1,6 @@
--- A command with its arguments, apart from where they lie in memory. Defaults are filled in, but for the
--- hidden input and the target locality, which stay absent: `hidden_or_zeros` and `locality_or` fill them.
+-- A command with its arguments, apart from where they lie in memory. Defaults are filled in, but for three that stay
+-- absent: the handle, since the state tells which context is the caller's default, and the hidden input and the target
+-- locality, which `hidden_or_zeros` and `locality_or` fill.
 use Rattle.std.specs.Prelude.{ℕ, ◌==◌, Bool, true, false, List, [], Option, Some, None, unwrap_or, replicate, if◌then◌else◌}
 use Rattle.dpe_messages.specs.FlatMap.{Value, number, byte_string, truth, FlatMap, value_at}
 use Rattle.dpe_messages.specs.Numbers as command
@@ -10,7 +11,7 @@ pub data Configuration : Type 0 where
   descriptor : List ℕ → Configuration
 
 pub record DeriveRequest : Type 0 where
-  pub handle : List ℕ
+  pub handle : Option (List ℕ)
   pub code : List ℕ
   pub config : Configuration
   pub authority : List ℕ
@@ -19,15 +20,16 @@ pub record DeriveRequest : Type 0 where
   pub retain : Bool
   pub may_derive : Bool
   pub locality : Option ℕ
+  pub child_default : Bool
 
 pub record SignRequest : Type 0 where
-  pub handle : List ℕ
+  pub handle : Option (List ℕ)
   pub label : List ℕ
   pub retain : Bool
   pub message : List ℕ
 
 pub record SealRequest : Type 0 where
-  pub handle : List ℕ
+  pub handle : Option (List ℕ)
   pub label : List ℕ
   pub retain : Bool
   pub localities : ℕ
@@ -35,20 +37,20 @@ pub record SealRequest : Type 0 where
   pub plain : List ℕ
 
 pub record UnsealRequest : Type 0 where
-  pub handle : List ℕ
+  pub handle : Option (List ℕ)
   pub label : List ℕ
   pub retain : Bool
   pub sealed : List ℕ
 
 pub data Request : Type 0 where
   get_profile : Request
-  initialize : Request
+  initialize : Bool → Request
   derive : DeriveRequest → Request
   sign : SignRequest → Request
   seal : SealRequest → Request
   unseal : UnsealRequest → Request
-  rotate : List ℕ → Request
-  destroy : List ℕ → Bool → Request
+  rotate : Option (List ℕ) → Bool → Request
+  destroy : Option (List ℕ) → Bool → Request
 
 -- the value of an argument, or the default where it is absent
 abbrev pub bytes_or : List ℕ → Option Value → List ℕ
@@ -78,7 +80,7 @@ config_of _ d = descriptor (bytes_or [] d)
 -- the arguments of DeriveContext, where `at` gives the value at each key
 abbrev pub derive_from : (ℕ → Option Value) → DeriveRequest
 derive_from at = record {
-  handle = bytes_or [] (at 1);
+  handle = bytes_if (at 1);
   code = bytes_or [] (at 2);
   config = config_of (at 3) (at 4);
   authority = bytes_or [] (at 5);
@@ -87,11 +89,12 @@ derive_from at = record {
   retain = truth_or false (at 8);
   may_derive = truth_or true (at 9);
   locality = number_if (at 10);
+  child_default = truth_or false (at 12);
 }
 
 abbrev pub sign_from : (ℕ → Option Value) → SignRequest
 sign_from at = record {
-  handle = bytes_or [] (at 1);
+  handle = bytes_if (at 1);
   label = bytes_or [] (at 2);
   retain = truth_or false (at 3);
   message = bytes_or [] (at 5);
@@ -99,7 +102,7 @@ sign_from at = record {
 
 abbrev pub seal_from : (ℕ → Option Value) → SealRequest
 seal_from at = record {
-  handle = bytes_or [] (at 1);
+  handle = bytes_if (at 1);
   label = bytes_or [] (at 2);
   retain = truth_or false (at 3);
   localities = number_or 255 (at 4);
@@ -109,7 +112,7 @@ seal_from at = record {
 
 abbrev pub unseal_from : (ℕ → Option Value) → UnsealRequest
 unseal_from at = record {
-  handle = bytes_or [] (at 1);
+  handle = bytes_if (at 1);
   label = bytes_or [] (at 2);
   retain = truth_or false (at 3);
   sealed = bytes_or [] (at 5);
@@ -118,13 +121,13 @@ unseal_from at = record {
 -- the command of this number
 abbrev pub request_from : ℕ → (ℕ → Option Value) → Request
 request_from n at =
-    if n == command.initialize_context then initialize
+    if n == command.initialize_context then initialize (truth_or false (at 2))
     else (if n == command.derive_context then derive (derive_from at)
     else (if n == command.sign then sign (sign_from at)
     else (if n == command.seal then seal (seal_from at)
     else (if n == command.unseal then unseal (unseal_from at)
-    else (if n == command.rotate_context_handle then rotate (bytes_or [] (at 1))
-    else (if n == command.destroy_context then destroy (bytes_or [] (at 1)) (truth_or false (at 2))
+    else (if n == command.rotate_context_handle then rotate (bytes_if (at 1)) (truth_or false (at 2))
+    else (if n == command.destroy_context then destroy (bytes_if (at 1)) (truth_or false (at 2))
     else get_profile))))))
 
 -- the command of this number with these arguments

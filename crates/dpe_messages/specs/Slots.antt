@@ -16,14 +16,14 @@ value_in s key = option_map view (slice_index_or s.values key None)
 -- a further pair, in the slot of its key if it has one, and tested
 abbrev pub with_pair : List Argument → ℕ → Found → Slots → Slots
 with_pair table key value s = record {
-  values = if nat_lt key 12 then slice_set s.values key (Some value) else s.values;
+  values = if nat_lt key 13 then slice_set s.values key (Some value) else s.values;
   all_in_table = s.all_in_table && is_argument table (key, view value);
 }
 
--- the slots of the keys below 12 have the values of the map, and the pairs of the map were tested
+-- the slots of the keys below 13 have the values of the map, and the pairs of the map were tested
 pub record Holds (table : List Argument) (s : Slots) (m : FlatMap) : Type 0 where
-  pub len : length s.values ≡ 12
-  pub value : (key : ℕ) → key < 12 → value_in s key ≡ value_at key m
+  pub len : length s.values ≡ 13
+  pub value : (key : ℕ) → key < 13 → value_in s key ≡ value_at key m
   pub tested : s.all_in_table ≡ list_all (is_argument table) m
 
 -- each pair that was read is an argument in its range, and each argument is there as it has to be

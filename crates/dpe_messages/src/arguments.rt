@@ -58,11 +58,11 @@ macro_rules! argument {
 
 static INITIALIZE: [Argument; 2] = [
     argument!(1, Boolean, Optional, IfTrue), // simulation
-    argument!(2, Boolean, Optional, IfTrue), // use-default-context
+    argument!(2, Boolean, Optional, Nothing), // use-default-context
 ];
 
-static DERIVE: [Argument; 11] = [
-    argument!(1, HANDLE, Required, Nothing), // handle
+static DERIVE: [Argument; 12] = [
+    argument!(1, HANDLE, Optional, Nothing), // handle
     argument!(2, INPUT, Required, Nothing), // code
     argument!(3, INPUT, OneOfTwo, Nothing), // configuration
     argument!(4, BytesBetween(0, 1024), OneOfTwo, Nothing), // configuration descriptor
@@ -73,10 +73,11 @@ static DERIVE: [Argument; 11] = [
     argument!(9, Boolean, Optional, Nothing), // may-derive
     argument!(10, NumberUpTo(7), Optional, Nothing), // target locality
     argument!(11, Boolean, Optional, IfTrue), // create-certificate
+    argument!(12, Boolean, Optional, Nothing), // child-default
 ];
 
 static SIGN: [Argument; 5] = [
-    argument!(1, HANDLE, Required, Nothing), // handle
+    argument!(1, HANDLE, Optional, Nothing), // handle
     argument!(2, LABEL, Optional, Nothing), // label
     argument!(3, Boolean, Optional, Nothing), // retain-context
     argument!(4, Boolean, Optional, UnlessTrue), // is-symmetric
@@ -84,7 +85,7 @@ static SIGN: [Argument; 5] = [
 ];
 
 static SEAL: [Argument; 6] = [
-    argument!(1, HANDLE, Required, Nothing), // handle
+    argument!(1, HANDLE, Optional, Nothing), // handle
     argument!(2, LABEL, Optional, Nothing), // label
     argument!(3, Boolean, Optional, Nothing), // retain-context
     argument!(4, NumberUpTo(255), Optional, Nothing), // localities
@@ -93,7 +94,7 @@ static SEAL: [Argument; 6] = [
 ];
 
 static UNSEAL: [Argument; 5] = [
-    argument!(1, HANDLE, Required, Nothing), // handle
+    argument!(1, HANDLE, Optional, Nothing), // handle
     argument!(2, LABEL, Optional, Nothing), // label
     argument!(3, Boolean, Optional, Nothing), // retain-context
     argument!(4, Boolean, Optional, IfTrue), // is-asymmetric
@@ -101,12 +102,12 @@ static UNSEAL: [Argument; 5] = [
 ];
 
 static ROTATE: [Argument; 2] = [
-    argument!(1, HANDLE, Required, Nothing), // handle
-    argument!(2, Boolean, Optional, IfTrue), // to-be-default
+    argument!(1, HANDLE, Optional, Nothing), // handle
+    argument!(2, Boolean, Optional, Nothing), // to-be-default
 ];
 
 static DESTROY: [Argument; 2] = [
-    argument!(1, HANDLE, Required, Nothing), // handle
+    argument!(1, HANDLE, Optional, Nothing), // handle
     argument!(2, Boolean, Optional, Nothing), // destroy-recursively
 ];
 

@@ -35,7 +35,7 @@ pub const INVALID_ARGUMENT: u64 = 3;
 
 pub const SEED_LOCKED: u64 = 5;
 
-/// The first of the codes that stand side by side, up to `ROOT_LOCALITY`.
+/// The first of the codes that stand side by side, up to `DEFAULT_TAKEN`.
 pub const UNSUPPORTED: u64 = 16;
 
-pub const ROOT_LOCALITY: u64 = 27;
+pub const DEFAULT_TAKEN: u64 = 29;

@@ -3,8 +3,9 @@ ghost use Rattle.std.specs.Prelude.{◌≡◌, ◌≤◌, IfSome, length, take, 
 ghost use Rattle.std.specs.Option.{option_map};
 ghost use Rattle.dpe_messages.specs.FlatMap.{byte_string, number as number_value};
 ghost use Rattle.dpe_messages.specs.Found.{view};
-ghost use Rattle.dpe_messages.specs.Commands.{configuration_of, derive_request, sign_request, seal_request, unseal_request, request_of};
+ghost use Rattle.dpe_messages.specs.Commands.{name_of, configuration_of, derive_request, sign_request, seal_request, unseal_request, request_of};
 ghost use Rattle.dpe_messages.specs.Request.{derive as a_derive, sign as a_sign, seal as a_seal, unseal as an_unseal};
+ghost use Rattle.dpe_messages.specs.Ranges.{IsHandle};
 ghost use Rattle.dpe_messages.specs.CommandRows.{command_payload, unless_empty, unless_number, if_true, unless_true, inline_value, descriptor_value, IsInlineRight, IsDeriveWritable, IsCommandWritable};
 
 use crate::codes;
@@ -53,11 +54,14 @@ fn truth_unless_true(truth: bool) -> Option<Found<'static>>
     }
 }
 
-fn handle_value(handle: &[u8; 16]) -> Option<Found<'_>>
-    ensures value { option_map view result ≡ Some (byte_string handle.now) }
-    ensures length { length handle.now ≡ 16 }
+fn handle_value(handle: Option<&[u8; 16]>) -> Option<Found<'_>>
+    ensures value { option_map view result ≡ option_map byte_string (name_of handle.entry) }
+    ensures length { IfSome (name_of handle.entry) IsHandle }
 {
-    Some(Found::Bytes(handle))
+    match handle {
+        None => None,
+        Some(handle) => Some(Found::Bytes(handle)),
+    }
 }
 
 fn input_value(input: &[u8; 64]) -> Option<Found<'_>>
@@ -121,6 +125,7 @@ fn write_derive(derive: &Derive<'_>, room: &mut [u8; 4096]) -> usize
     let retain = truth_if_true(derive.retain);
     let may_derive = truth_unless_true(derive.may_derive);
     let locality = locality_number(&derive.locality);
+    let child_default = truth_if_true(derive.child_default);
     write_message(
         codes::DERIVE_CONTEXT,
         &[
@@ -134,6 +139,7 @@ fn write_derive(derive: &Derive<'_>, room: &mut [u8; 4096]) -> usize
             (8, retain),
             (9, may_derive),
             (10, locality),
+            (12, child_default),
         ],
         room,
     )
@@ -223,25 +229,37 @@ pub fn write_command(command: &Command<'_>, room: &mut [u8; 4096]) -> usize
 {
     match command {
         Command::GetProfile => write_message(codes::GET_PROFILE, &[], room),
-        Command::Initialize => write_message(codes::INITIALIZE_CONTEXT, &[], room),
+        Command::Initialize { default } => write_message(
+            codes::INITIALIZE_CONTEXT,
+            &[(2, truth_if_true(*default))],
+            room,
+        ),
         Command::Derive(derive) => write_derive(derive, room),
         Command::Sign(sign) => write_sign(sign, room),
         Command::Seal(seal) => write_seal(seal, room),
         Command::Unseal(unseal) => write_unseal(unseal, room),
-        Command::Rotate(handle) => write_message(
-            codes::ROTATE_CONTEXT_HANDLE,
-            &[(1, handle_value(handle))],
-            room,
-        ),
-        Command::Destroy { handle, recursive } => write_destroy(handle, *recursive, room),
+        Command::Rotate { handle, default } => write_rotate(*handle, *default, room),
+        Command::Destroy { handle, recursive } => write_destroy(*handle, *recursive, room),
     }
 }
 
-ghost use Rattle.dpe_messages.specs.Request.{destroy};
+ghost use Rattle.dpe_messages.specs.Request.{rotate, destroy};
 
-fn write_destroy(handle: &[u8; 16], recursive: bool, room: &mut [u8; 4096]) -> usize
+fn write_rotate(handle: Option<&[u8; 16]>, default: bool, room: &mut [u8; 4096]) -> usize
     ensures within { result ≤ 4096 }
-    ensures written { take result room.new ≡ command_payload (destroy handle.now recursive) }
+    ensures written { take result room.new ≡ command_payload (rotate (name_of handle.entry) default) }
+    ensures behind { drop result room.new ≡ drop result room.old }
+{
+    write_message(
+        codes::ROTATE_CONTEXT_HANDLE,
+        &[(1, handle_value(handle)), (2, truth_if_true(default))],
+        room,
+    )
+}
+
+fn write_destroy(handle: Option<&[u8; 16]>, recursive: bool, room: &mut [u8; 4096]) -> usize
+    ensures within { result ≤ 4096 }
+    ensures written { take result room.new ≡ command_payload (destroy (name_of handle.entry) recursive) }
     ensures behind { drop result room.new ≡ drop result room.old }
 {
     write_message(

@@ -8,7 +8,7 @@ ghost use Rattle.dpe_messages.specs.Slots.{value_in, Holds, AreRead};
 ghost use Rattle.dpe_messages.specs.Ranges.{InRanges, IsConfiguration, IsDerive, IsSign, IsSeal, IsUnseal, IsHandle, IsInput};
 ghost use Rattle.dpe_messages.specs.Request.{request_from, bytes_or, number_or, truth_or, bytes_if, number_if, config_of};
 ghost use Rattle.dpe_messages.specs.Request.{derive_from, sign_from, seal_from, unseal_from};
-ghost use Rattle.dpe_messages.specs.Commands.{request_of, derive_request, sign_request, seal_request, unseal_request, configuration_of, class_of_answer};
+ghost use Rattle.dpe_messages.specs.Commands.{name_of, request_of, derive_request, sign_request, seal_request, unseal_request, configuration_of, class_of_answer};
 ghost use Rattle.dpe_messages.specs.Class.{class, class_of, IsClass, is_command_number as may_be_command, is_unsupported as is_left_out};
 
 use crate::arguments::arguments_of;
@@ -75,11 +75,14 @@ fn array64(bytes: &[u8]) -> &[u8; 64]
     }
 }
 
-fn handle(value: Option<Found<'_>>) -> &[u8; 16]
-    requires { IsHandle (bytes_or [] (option_map view value)) }
-    ensures { result.now ≡ bytes_or [] (option_map view value.entry) }
+fn handle_if_there(value: Option<Found<'_>>) -> Option<&[u8; 16]>
+    requires { IfSome (bytes_if (option_map view value)) IsHandle }
+    ensures { name_of result ≡ bytes_if (option_map view value.entry) }
 {
-    array16(bytes(value))
+    match value {
+        Some(Found::Bytes(b)) => Some(array16(b)),
+        _ => None,
+    }
 }
 
 fn input(value: Option<Found<'_>>) -> &[u8; 64]
@@ -114,7 +117,7 @@ fn derive<'a>(slots: &Slots<'a>) -> Derive<'a>
     ensures { derive_request result ≡ derive_from (value_in slots.now) }
 {
     Derive {
-        handle: handle(slots.value(1)),
+        handle: handle_if_there(slots.value(1)),
         code: input(slots.value(2)),
         config: config(slots.value(3), slots.value(4)),
         authority: input(slots.value(5)),
@@ -123,6 +126,7 @@ fn derive<'a>(slots: &Slots<'a>) -> Derive<'a>
         retain: flag(slots.value(8), false),
         may_derive: flag(slots.value(9), true),
         locality: number_if_there(slots.value(10)),
+        child_default: flag(slots.value(12), false),
     }
 }
 
@@ -131,7 +135,7 @@ fn sign<'a>(slots: &Slots<'a>) -> Sign<'a>
     ensures { sign_request result ≡ sign_from (value_in slots.now) }
 {
     Sign {
-        handle: handle(slots.value(1)),
+        handle: handle_if_there(slots.value(1)),
         label: bytes(slots.value(2)),
         retain: flag(slots.value(3), false),
         message: bytes(slots.value(5)),
@@ -143,7 +147,7 @@ fn seal<'a>(slots: &Slots<'a>) -> Seal<'a>
     ensures { seal_request result ≡ seal_from (value_in slots.now) }
 {
     Seal {
-        handle: handle(slots.value(1)),
+        handle: handle_if_there(slots.value(1)),
         label: bytes(slots.value(2)),
         retain: flag(slots.value(3), false),
         localities: number(slots.value(4), 255),
@@ -157,7 +161,7 @@ fn unseal<'a>(slots: &Slots<'a>) -> Unseal<'a>
     ensures { unseal_request result ≡ unseal_from (value_in slots.now) }
 {
     Unseal {
-        handle: handle(slots.value(1)),
+        handle: handle_if_there(slots.value(1)),
         label: bytes(slots.value(2)),
         retain: flag(slots.value(3), false),
         sealed: bytes(slots.value(5)),
@@ -169,14 +173,19 @@ fn command_from<'a>(number: u64, slots: &Slots<'a>) -> Command<'a>
     ensures { request_of result ≡ request_from number (value_in slots.now) }
 {
     match number {
-        codes::INITIALIZE_CONTEXT => Command::Initialize,
+        codes::INITIALIZE_CONTEXT => Command::Initialize {
+            default: flag(slots.value(2), false),
+        },
         codes::DERIVE_CONTEXT => Command::Derive(derive(slots)),
         codes::SIGN => Command::Sign(sign(slots)),
         codes::SEAL => Command::Seal(seal(slots)),
         codes::UNSEAL => Command::Unseal(unseal(slots)),
-        codes::ROTATE_CONTEXT_HANDLE => Command::Rotate(handle(slots.value(1))),
+        codes::ROTATE_CONTEXT_HANDLE => Command::Rotate {
+            handle: handle_if_there(slots.value(1)),
+            default: flag(slots.value(2), false),
+        },
         codes::DESTROY_CONTEXT => Command::Destroy {
-            handle: handle(slots.value(1)),
+            handle: handle_if_there(slots.value(1)),
             recursive: flag(slots.value(2), false),
         },
         _ => Command::GetProfile,
@@ -239,7 +248,7 @@ fn class_of_payload(payload: &[u8]) -> Result<Command<'_>, Refusal>
 
 /// The command that a payload asks for, with its slices lent from the payload, or why it is none.
 ///
-/// Defaults are filled in; the hidden input and the target locality stay `None` where they are absent.
+/// Defaults are filled in; the handle, the hidden input and the target locality stay `None` where they are absent.
 pub fn read_payload(payload: &[u8]) -> Result<Command<'_>, Refusal>
     ensures class { class_of_answer result ≡ class payload.now }
     ensures is_class { IsClass payload.now (class_of_answer result) }

@@ -190,7 +190,7 @@ fn refused<'a>(code: u64, fields: &Fields<'a>) -> Result<Reply<'a>, NotAReply>
                 codes::INVALID_COMMAND
                     | codes::INVALID_ARGUMENT
                     | codes::SEED_LOCKED
-                    | codes::UNSUPPORTED..=codes::ROOT_LOCALITY
+                    | codes::UNSUPPORTED..=codes::DEFAULT_TAKEN
             ) {
                 return Ok(Reply::Refused(code as u8));
             }
@@ -271,8 +271,8 @@ fn answer<'a>(asked: &Asked, fields: &Fields<'a>) -> Result<Reply<'a>, NotAReply
 ghost use Rattle.dpe_messages.specs.Replies.{profile, reply_payload};
 
 /// The reply to GetProfile: the profile's name, the bytes of the longest payload, the contexts and the depth.
-const PROFILE_REPLY: [u8; 34] =
-    *b"\x82\x00\x58\x1e\x82\x00\xa4\x01\x6fdpe-symmetric-1\x02\x19\x10\x00\x03\x19\x01\x00\x04\x10";
+const PROFILE_REPLY: [u8; 35] =
+    *b"\x82\x00\x58\x1f\x82\x00\xa4\x01\x6fdpe-symmetric-2\x02\x19\x10\x00\x03\x19\x04\x00\x04\x18\x20";
 
 fn is_profile(payload: &[u8]) -> bool
     ensures { IsTrue result ↔ (payload.now ≡ reply_payload profile) }

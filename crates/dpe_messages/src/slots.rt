@@ -15,7 +15,7 @@ use dpe_cbor::Reader;
 /// The values of the arguments of a command, by their keys.
 #[derive(Clone, Copy)]
 pub struct Slots<'a> {
-    values: [Option<Found<'a>>; 12],
+    values: [Option<Found<'a>>; 13],
     /// Each pair that was read is an argument of the command's table, and in its range.
     all_in_table: bool,
 }
@@ -76,11 +76,11 @@ fn takes_one_of_two(table: &[Argument]) -> bool
 
 impl<'a> Slots<'a> {
     fn empty() -> Slots<'a>
-        ensures values { result.values ≡ replicate 12 None }
+        ensures values { result.values ≡ replicate 13 None }
         ensures tested { result.all_in_table ≡ true }
     {
         Slots {
-            values: [None; 12],
+            values: [None; 13],
             all_in_table: true,
         }
     }
@@ -90,7 +90,7 @@ impl<'a> Slots<'a> {
         ensures { self.new ≡ with_pair table.now key value.entry self.old }
     {
         self.all_in_table = self.all_in_table && is_in_table(table, key, value);
-        if key < 12 {
+        if key < 13 {
             self.values[key as usize] = Some(value);
         }
     }

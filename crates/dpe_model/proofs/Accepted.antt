@@ -9,7 +9,7 @@ use Rattle.dpe_messages.specs.Request.{Request}
 use Rattle.dpe_messages.specs.Class as classes
 use Rattle.dpe_messages.specs.Replies as replies
 use Rattle.dpe_model.specs.State.{Row, State, serial, handle_of, depth}
-use Rattle.dpe_model.specs.Verdict.{first_code, tests, verdict, used, makes, has, initializes, derives, retains_parent, named}
+use Rattle.dpe_model.specs.Verdict.{first_code, tests, verdict, used, makes, has, initializes, derives, retains_parent, named, uses_row, to_mark, is_taken}
 use Rattle.dpe_model.specs.Step.{done, Outcome, judged, stepped, step}
 use Rattle.dpe_model.proofs.Messages.{class_code}
 
@@ -35,7 +35,7 @@ coded_first [] code h e = cc
 coded_first ((true, c) ∷ ts) code h e = let same : c ≡ code = cc in subst replies.IsRefusalCode same h.0
 coded_first ((false, c) ∷ ts) code h e = coded_first ts code h.1 e
 
-from_16 : (code : ℕ) → 16 ≤ code → code ≤ 27 → replies.IsRefusalCode code
+from_16 : (code : ℕ) → 16 ≤ code → code ≤ 29 → replies.IsRefusalCode code
 from_16 code low high = inr (inr (inr (low, high)))
 
 tests_coded : (seed : List ℕ) (S : State) (locality : ℕ) (request : Request) (row : Option Row) → AllByRecursion (λ t. replies.IsRefusalCode t.1) (tests seed S locality request row)
@@ -46,20 +46,26 @@ tests_coded seed S locality request row = (
     (
       from_16 17 (omega arith) (omega arith),
       (
-        from_16 18 (omega arith) (omega arith),
+        from_16 28 (omega arith) (omega arith),
         (
-          from_16 19 (omega arith) (omega arith),
+          from_16 18 (omega arith) (omega arith),
           (
-            from_16 20 (omega arith) (omega arith),
+            from_16 19 (omega arith) (omega arith),
             (
-              from_16 21 (omega arith) (omega arith),
+              from_16 20 (omega arith) (omega arith),
               (
-                from_16 25 (omega arith) (omega arith),
+                from_16 21 (omega arith) (omega arith),
                 (
-                  from_16 22 (omega arith) (omega arith),
+                  from_16 29 (omega arith) (omega arith),
                   (
-                    from_16 23 (omega arith) (omega arith),
-                    (from_16 24 (omega arith) (omega arith), tt),
+                    from_16 25 (omega arith) (omega arith),
+                    (
+                      from_16 22 (omega arith) (omega arith),
+                      (
+                        from_16 23 (omega arith) (omega arith),
+                        (from_16 24 (omega arith) (omega arith), tt),
+                      ),
+                    ),
                   ),
                 ),
               ),
@@ -93,10 +99,12 @@ pub record Passed (seed : List ℕ) (S : State) (locality : ℕ) (request : Requ
   pub at_root : initializes request && not (nat_eq locality 0) ≡ false
   pub unmade : initializes request && S.made ≡ false
   pub found : is_none row && is_some (named request) ≡ false
+  pub default : is_none row && uses_row request && is_none (named request) ≡ false
   pub owner : has row (λ r. not (nat_eq r.locality locality)) ≡ false
   pub may : derives request && has row (λ r. not r.may_derive) ≡ false
-  pub shallow : derives request && has row (λ r. nat_eq (depth r) 16) ≡ false
-  pub room : retains_parent request && nat_eq (length S.rows) 256 ≡ false
+  pub shallow : derives request && has row (λ r. nat_eq (depth r) 32) ≡ false
+  pub room : retains_parent request && nat_eq (length S.rows) 1024 ≡ false
+  pub taken : has row (λ r. has (to_mark locality request r) (is_taken S.rows (retains_parent request) r)) ≡ false
   pub serials : nat_lt (2 ^ 64 - 1) (S.next + makes request) ≡ false
 
 -- where no code comes, no test applies
@@ -108,4 +116,15 @@ none_applies ((false, code) ∷ ts) h = (refl, none_applies ts h)
 pub passed : (seed : List ℕ) (S : State) (locality : ℕ) (request : Request) (row : Option Row) → first_code (tests seed S locality request row) ≡ None → Passed seed S locality request row
 passed seed S locality request row h =
     let t = none_applies (tests seed S locality request row) h in
-    record { at_root = t.0; unmade = t.1.0; found = t.1.1.0; owner = t.1.1.1.0; may = t.1.1.1.1.0; shallow = t.1.1.1.1.1.0; room = t.1.1.1.1.1.1.0; serials = t.1.1.1.1.1.1.1.0 }
+    record {
+      at_root = t.0;
+      unmade = t.1.0;
+      found = t.1.1.0;
+      default = t.1.1.1.0;
+      owner = t.1.1.1.1.0;
+      may = t.1.1.1.1.1.0;
+      shallow = t.1.1.1.1.1.1.0;
+      room = t.1.1.1.1.1.1.1.0;
+      taken = t.1.1.1.1.1.1.1.1.0;
+      serials = t.1.1.1.1.1.1.1.1.1.0;
+    }

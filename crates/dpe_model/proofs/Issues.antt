@@ -14,7 +14,7 @@ use Rattle.dpe_messages.specs.Replies.{reply_payload}
 use Rattle.dpe_inputs.specs.Cdi.{attest_cdi, seal_cdi}
 use Rattle.dpe_messages.proofs.AcceptedLemmas.{accepted_in_ranges}
 use Rattle.dpe_model.specs.State.{Row, State, serial, handle_of, path}
-use Rattle.dpe_model.specs.Verdict.{used, makes, named, verdict}
+use Rattle.dpe_model.specs.Verdict.{used, makes, uses_row, verdict}
 use Rattle.dpe_model.specs.Step.{Outcome, step, rows_made, answer, new0, new1, new_if, again, renamed, child, masks_of, salt_of}
 use Rattle.dpe_model.specs.History.{Entry, IsEntry, reply_of, reply_bytes, LegalFrom, Issue, issue_to, issues, issued_by, issued, all_issued, accepted_class, request_at, after, after_all}
 use Rattle.dpe_model.proofs.Messages.{reply_read}
@@ -29,11 +29,11 @@ same_number a b h = grind (arith, nat_tests)
 abbrev pub issue : Row → Issue
 issue row = (row.handle, row.locality)
 
--- a command that was accepted has the row that it names, and only then one
-found_row : (named : Option (List ℕ)) (row : Option Row) → is_none row && is_some named ≡ false → is_some named ≡ true → is_some row ≡ true
-found_row (Some h) (Some row) t k = refl
-found_row (Some h) None t k = sym t
-found_row None row t k = cc
+-- a command that was accepted has the row that it uses
+pub found_row : (name : Option (List ℕ)) (row : Option Row) → is_none row && is_some name ≡ false → is_none row && true && is_none name ≡ false → true ≡ is_some row
+found_row name (Some row) t k = refl
+found_row (Some h) None t k = cc
+found_row None None t k = cc
 
 -- ## What a reply tells
 
@@ -97,12 +97,12 @@ made_is_sendable : (S : State) (random bytes : List ℕ) (retain : Bool) → len
 made_is_sendable S random bytes retain h l = (made_handle S random h retain, l)
 
 -- The reply of an accepted command may be sent.
-pub answer_sendable : (seed : List ℕ) (S : State) (random : List ℕ) (request : Request) (row : Option Row) → length random ≡ 32 → is_some (named request) ≡ is_some row → InRanges request →
+pub answer_sendable : (seed : List ℕ) (S : State) (random : List ℕ) (request : Request) (row : Option Row) → length random ≡ 32 → uses_row request ≡ is_some row → InRanges request →
     replies.IsSendable (answer seed S random request row)
 answer_sendable seed S random get_profile None h t r = tt
 answer_sendable seed S random get_profile (Some row) h t r = cc
-answer_sendable seed S random initialize None h t r = new0_length S random h
-answer_sendable seed S random initialize (Some row) h t r = cc
+answer_sendable seed S random (initialize m) None h t r = new0_length S random h
+answer_sendable seed S random (initialize m) (Some row) h t r = cc
 answer_sendable seed S random (derive d) None h t r = cc
 answer_sendable seed S random (derive d) (Some row) h t r = (new0_length S random h, parent_handle S random h d.retain)
 answer_sendable seed S random (sign s) None h t r = cc
@@ -116,30 +116,30 @@ answer_sendable seed S random (seal s) (Some row) h t r =
 answer_sendable seed S random (unseal u) None h t r = cc
 answer_sendable seed S random (unseal u) (Some row) h t r =
     made_is_sendable S random _ u.retain h (omega (arith, length-text_of (seal_cdi seed (path row)) u.label u.sealed))
-answer_sendable seed S random (rotate old) None h t r = cc
-answer_sendable seed S random (rotate old) (Some row) h t r = new0_length S random h
+answer_sendable seed S random (rotate old m) None h t r = cc
+answer_sendable seed S random (rotate old m) (Some row) h t r = new0_length S random h
 answer_sendable seed S random (destroy old r) None h t k = cc
 answer_sendable seed S random (destroy old r) (Some row) h t k = tt
 
--- an accepted command uses a row exactly where it names one
-pub row_named : (S : State) (l : ℕ) (request : Request) → is_none (used S l request) && is_some (named request) ≡ false → is_some (named request) ≡ is_some (used S l request)
-row_named S l get_profile t = refl
-row_named S l initialize t = refl
-row_named S l (derive d) t = sym (found_row (Some d.handle) (used S l (derive d)) t refl)
-row_named S l (sign s) t = sym (found_row (Some s.handle) (used S l (sign s)) t refl)
-row_named S l (seal s) t = sym (found_row (Some s.handle) (used S l (seal s)) t refl)
-row_named S l (unseal u) t = sym (found_row (Some u.handle) (used S l (unseal u)) t refl)
-row_named S l (rotate h) t = sym (found_row (Some h) (used S l (rotate h)) t refl)
-row_named S l (destroy h r) t = sym (found_row (Some h) (used S l (destroy h r)) t refl)
+-- an accepted command finds the row that it uses
+pub row_used : (seed : List ℕ) (S : State) (l : ℕ) (request : Request) → Passed seed S l request (used S l request) → uses_row request ≡ is_some (used S l request)
+row_used seed S l get_profile t = refl
+row_used seed S l (initialize m) t = refl
+row_used seed S l (derive d) t = found_row d.handle (used S l (derive d)) t.found t.default
+row_used seed S l (sign s) t = found_row s.handle (used S l (sign s)) t.found t.default
+row_used seed S l (seal s) t = found_row s.handle (used S l (seal s)) t.found t.default
+row_used seed S l (unseal u) t = found_row u.handle (used S l (unseal u)) t.found t.default
+row_used seed S l (rotate h m) t = found_row h (used S l (rotate h m)) t.found t.default
+row_used seed S l (destroy h r) t = found_row h (used S l (destroy h r)) t.found t.default
 
 -- The reply tells the handles of the rows that are made, with their localities.
-pub answer_issues : (seed : List ℕ) (S : State) (l : ℕ) (random : List ℕ) (request : Request) (row : Option Row) → Passed seed S l request row → is_some (named request) ≡ is_some row →
+pub answer_issues : (seed : List ℕ) (S : State) (l : ℕ) (random : List ℕ) (request : Request) (row : Option Row) → Passed seed S l request row → uses_row request ≡ is_some row →
     replies.IsSendable (answer seed S random request row) →
     issues l request (reply_payload (answer seed S random request row)) ≡ map issue (rows_made S l random request row)
 answer_issues seed S l random get_profile None t n s = refl
 answer_issues seed S l random get_profile (Some row) t n s = refl
-answer_issues seed S l random initialize None t n s = handle_read l (new0 S random) s ∙ ap (λ k. (new0 S random, k) ∷ []) (same_number l 0 t.at_root)
-answer_issues seed S l random initialize (Some row) t n s = cc
+answer_issues seed S l random (initialize m) None t n s = handle_read l (new0 S random) s ∙ ap (λ k. (new0 S random, k) ∷ []) (same_number l 0 t.at_root)
+answer_issues seed S l random (initialize m) (Some row) t n s = cc
 answer_issues seed S l random (derive d) None t n s = cc
 answer_issues seed S l random (derive d) (Some row) t n s =
     derived_read (locality_or l d) l (new0 S random) (cond d.retain (Some (new1 S random)) None) s ∙ derived_issued S random row d l (same_number row.locality l t.owner) d.retain
@@ -149,8 +149,8 @@ answer_issues seed S l random (seal q) None t n s = cc
 answer_issues seed S l random (seal q) (Some row) t n s = made_read l (new_if S random q.retain) _ s ∙ again_issued S random row q.retain l (same_number row.locality l t.owner)
 answer_issues seed S l random (unseal q) None t n s = cc
 answer_issues seed S l random (unseal q) (Some row) t n s = made_read l (new_if S random q.retain) _ s ∙ again_issued S random row q.retain l (same_number row.locality l t.owner)
-answer_issues seed S l random (rotate h) None t n s = cc
-answer_issues seed S l random (rotate h) (Some row) t n s = handle_read l (new0 S random) s ∙ ap (λ k. (new0 S random, k) ∷ []) (sym (same_number row.locality l t.owner))
+answer_issues seed S l random (rotate h m) None t n s = cc
+answer_issues seed S l random (rotate h m) (Some row) t n s = handle_read l (new0 S random) s ∙ ap (λ k. (new0 S random, k) ∷ []) (sym (same_number row.locality l t.owner))
 answer_issues seed S l random (destroy h r) None t n s = refl
 answer_issues seed S l random (destroy h r) (Some row) t n s = refl
 
@@ -161,13 +161,13 @@ nothing_in e code n h key l = ap (λ p. issue_to l (reply_bytes key p)) h ∙ re
 refused_issues : (e : Entry) (code : ℕ) → replies.IsRefusalCode code → e.reply ≡ reply_payload (replies.refused code) → (c : Option Request) → issued_by e c ≡ []
 refused_issues e code n h None = refl
 refused_issues e code n h (Some get_profile) = refl
-refused_issues e code n h (Some initialize) = nothing_in e code n h 1 e.locality
+refused_issues e code n h (Some (initialize m)) = nothing_in e code n h 1 e.locality
 refused_issues e code n h (Some (derive d)) =
     ap (λ is. is ++ issue_to e.locality (reply_bytes 2 e.reply)) (nothing_in e code n h 1 (locality_or e.locality d)) ∙ nothing_in e code n h 2 e.locality
 refused_issues e code n h (Some (sign s)) = nothing_in e code n h 1 e.locality
 refused_issues e code n h (Some (seal s)) = nothing_in e code n h 1 e.locality
 refused_issues e code n h (Some (unseal s)) = nothing_in e code n h 1 e.locality
-refused_issues e code n h (Some (rotate s)) = nothing_in e code n h 1 e.locality
+refused_issues e code n h (Some (rotate s m)) = nothing_in e code n h 1 e.locality
 refused_issues e code n h (Some (destroy s r)) = refl
 
 -- An accepted command issues the rows that it makes.
@@ -177,7 +177,7 @@ pub accepted_issues : (seed : List ℕ) (S : State) (e : Entry) (request : Reque
 accepted_issues seed S e request n is ok h =
     let row = used S e.locality request in
     let t = passed seed S e.locality request row ok in
-    let there = row_named S e.locality request t.found in
+    let there = row_used seed S e.locality request t in
     ap (λ c. issued_by e (accepted_class c)) is
     ∙ (ap (issues e.locality request) h
     ∙ answer_issues seed S e.locality e.random request row t there (answer_sendable seed S e.random request row n there (accepted_in_ranges e.payload request is)))
@@ -221,8 +221,8 @@ spread_derived S random row d l false h = spread_one S.next (take 8 random) (loc
 pub spread_made : (S : State) (l : ℕ) (random : List ℕ) (request : Request) (row : Option Row) → S.next + makes request ≤ 2 ^ 64 - 1 →
     Spread S.next (map issue (rows_made S l random request row)) (S.next + makes request)
 spread_made S l random get_profile row h = omega arith
-spread_made S l random initialize None h = spread_one S.next (take 8 random) 0 (omega arith)
-spread_made S l random initialize (Some row) h = omega arith
+spread_made S l random (initialize m) None h = spread_one S.next (take 8 random) 0 (omega arith)
+spread_made S l random (initialize m) (Some row) h = omega arith
 spread_made S l random (derive d) None h = omega arith
 spread_made S l random (derive d) (Some row) h = spread_derived S random row d l d.retain h
 spread_made S l random (sign s) None h = omega arith
@@ -231,8 +231,8 @@ spread_made S l random (seal s) None h = omega arith
 spread_made S l random (seal s) (Some row) h = spread_again S random row s.retain h
 spread_made S l random (unseal u) None h = omega arith
 spread_made S l random (unseal u) (Some row) h = spread_again S random row u.retain h
-spread_made S l random (rotate old) None h = omega arith
-spread_made S l random (rotate old) (Some row) h = spread_one S.next (take 8 random) row.locality (omega arith)
+spread_made S l random (rotate old m) None h = omega arith
+spread_made S l random (rotate old m) (Some row) h = spread_one S.next (take 8 random) row.locality (omega arith)
 spread_made S l random (destroy old r) row h = omega arith
 
 -- What an entry issues has the serials that the state moves on by.

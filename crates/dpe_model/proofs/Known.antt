@@ -1,7 +1,7 @@
 -- Each live row was issued before.
-use Rattle.std.proofs.Common.{◌≡◌, ℕ, List, [], ◌∷◌, ◌++◌, ap, sym, ◌∙◌, subst, map, not, true, nat_eq, Some, append_assoc, Contains}
+use Rattle.std.proofs.Common.{◌≡◌, ◌≢◌, ◌⊎◌, inl, inr, refl, AllPairs, ℕ, List, [], ◌∷◌, ◌++◌, ap, sym, ◌∙◌, subst, map, not, true, nat_eq, Some, append_assoc, Contains, arith}
 use Rattle.std.specs.List.{AllByRecursion}
-use Rattle.std.proofs.lemmas.List.Elements.{Contains-append_left, Contains-append_right, All-contains_itself, recursion_from_All}
+use Rattle.std.proofs.lemmas.List.Elements.{Contains-append_left, Contains-append_right, Contains-append_cases, All-contains_itself, All-contains, All-from_recursion, recursion_from_All}
 use Rattle.dpe_messages.specs.Request.{Request}
 use Rattle.dpe_messages.specs.Class as classes
 use Rattle.dpe_messages.specs.Replies.{reply_payload}
@@ -9,10 +9,12 @@ use Rattle.dpe_model.specs.State.{Row, State, start}
 use Rattle.dpe_model.specs.Verdict.{used, has}
 use Rattle.dpe_model.specs.Step.{Outcome, step, rows_left, rows_made}
 use Rattle.dpe_model.specs.History.{Entry, IsEntry, LegalFrom, Issue, issued, all_issued, accepted, is_accepted, after, after_all}
+use Rattle.dpe_model.specs.Laws.{IssuedByOne}
+use Rattle.dpe_model.proofs.RowLists.{pairs_head, pairs_tail}
 use Rattle.dpe_model.proofs.Accepted.{IsStep, refusing, obeying, each_step, passed}
 use Rattle.dpe_model.proofs.Issues.{issue, accepted_issues, same_number}
 use Rattle.dpe_model.proofs.Spent.{left_all, weaker_all, used_all, accepts_row, refused_not_accepted}
-use Rattle.dpe_model.proofs.Runs.{append_all, legal_front, legal_head, legal_tail, legal_rest}
+use Rattle.dpe_model.proofs.Runs.{append_all, rest_all, legal_front, legal_head, legal_tail, legal_rest}
 
 -- each live row was issued, to its locality, by what is in the list
 abbrev pub Known : List Issue → State → Type 0
@@ -65,3 +67,57 @@ known_before seed first before rest e handle h a =
     let own = own_locality seed S e r.0 r.1 r.2 r.3 r.5 (step seed S e.locality e.random e.payload) (each_step seed S e.locality e.random e.payload) (legal_head seed S e rest from_e) in
     let same : issue r.1 ≡ (handle, e.locality) = ap (λ h. (h, r.1.locality)) r.4 ∙ ap (λ l. (handle, l)) own in
     subst (Contains (all_issued before)) same there
+
+-- ## Issued by one entry
+
+-- of two lists in one, each of the first and each of the second are apart
+across : (R : Issue → Issue → Type 0) (xs ys : List Issue) → AllPairs R (xs ++ ys) → AllByRecursion (λ x. AllByRecursion (R x) ys) xs
+across R [] ys h = tt
+across R (x ∷ xs) ys h = (rest_all (R x) xs ys (pairs_head R x (xs ++ ys) h), across R xs ys (pairs_tail R x (xs ++ ys) h))
+
+-- and so are those of the second
+latter : (R : Issue → Issue → Type 0) (xs ys : List Issue) → AllPairs R (xs ++ ys) → AllPairs R ys
+latter R [] ys h = h
+latter R (x ∷ xs) ys h = latter R xs ys (pairs_tail R x (xs ++ ys) h)
+
+abbrev Differ : Issue → Issue → Type 0
+Differ a b = a.0 ≢ b.0
+
+of_contained : (P : Issue → Type 0) (xs : List Issue) (x : Issue) → AllByRecursion P xs → Contains xs x → P x
+of_contained P xs x h c = All-contains P xs x (All-from_recursion P xs h) c
+
+-- the handle is issued by the first entry, and by none of the others
+by_first : (e : Entry) (es : List Entry) (handle : List ℕ) (locality : ℕ) → AllPairs Differ (issued e ++ all_issued es) → Contains (issued e) (handle, locality) → IssuedByOne (e ∷ es) handle locality
+by_first e es handle locality d here = (
+  [],
+  es,
+  e,
+  refl,
+  here,
+  weaker_all (Differ (handle, locality)) (λ (i : Issue). i.0 ≢ handle) (λ i n s. n (sym s)) (all_issued es)
+      (of_contained (λ i. AllByRecursion (Differ i) (all_issued es)) (issued e) (handle, locality) (across Differ (issued e) (all_issued es) d) here),
+)
+
+-- or by one of the others, and not by the first
+by_later : (e : Entry) (es : List Entry) (handle : List ℕ) (locality : ℕ) → AllPairs Differ (issued e ++ all_issued es) → Contains (all_issued es) (handle, locality) → IssuedByOne es handle locality → IssuedByOne (e ∷ es) handle locality
+by_later e es handle locality d there one =
+    let rest = all_issued (one.0 ++ one.1) in (
+      e ∷ one.0,
+      one.1,
+      one.2,
+      ap (λ xs. e ∷ xs) one.3,
+      one.4,
+      append_all (λ (i : Issue). i.0 ≢ handle) (issued e) rest
+          (weaker_all (λ (i : Issue). AllByRecursion (Differ i) (all_issued es)) (λ (i : Issue). i.0 ≢ handle) (λ i k. of_contained (Differ i) (all_issued es) (handle, locality) k there) (issued e) (across Differ (issued e) (all_issued es) d))
+          one.5,
+    )
+
+one_of : (e : Entry) (es : List Entry) (handle : List ℕ) (locality : ℕ) → AllPairs Differ (issued e ++ all_issued es) → Contains (issued e) (handle, locality) ⊎ Contains (all_issued es) (handle, locality) →
+    (Contains (all_issued es) (handle, locality) → IssuedByOne es handle locality) → IssuedByOne (e ∷ es) handle locality
+one_of e es handle locality d (inl here) later = by_first e es handle locality d here
+one_of e es handle locality d (inr there) later = by_later e es handle locality d there (later there)
+
+pub issued_by_one : (H : List Entry) (handle : List ℕ) (locality : ℕ) → AllPairs Differ (all_issued H) → Contains (all_issued H) (handle, locality) → IssuedByOne H handle locality
+issued_by_one [] handle locality d c = absurd (let lt = c.1 in omega arith)
+issued_by_one (e ∷ es) handle locality d c =
+    one_of e es handle locality d (Contains-append_cases (issued e) (all_issued es) (handle, locality) c) (issued_by_one es handle locality (latter Differ (issued e) (all_issued es) d))

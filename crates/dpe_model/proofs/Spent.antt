@@ -1,5 +1,5 @@
 -- Spent handles: no row has one, and none will.
-use Rattle.std.proofs.Common.{◌≡◌, ◌≢◌, ℕ, ◌+◌, ◌<◌, ◌≤◌, List, [], ◌∷◌, ◌++◌, refl, ap, sym, ◌∙◌, subst, inr, map, filter, find, Bool, true, false, cond, not, Option, Some, None, arith, option_and_then}
+use Rattle.std.proofs.Common.{◌≡◌, ◌≢◌, ℕ, ◌+◌, ◌<◌, ◌≤◌, List, [], ◌∷◌, ◌++◌, refl, ap, sym, ◌∙◌, subst, inr, map, filter, find, Bool, true, false, cond, not, Option, Some, None, is_some, arith, option_and_then}
 use Rattle.std.specs.List.{AllByRecursion}
 use Rattle.std.specs.Bool.{Decides}
 use Rattle.std.specs.Str.{bytes_eq}
@@ -10,7 +10,7 @@ use Rattle.dpe_messages.specs.Class as classes
 use Rattle.dpe_messages.specs.Replies as replies
 use Rattle.dpe_messages.specs.Replies.{reply_payload}
 use Rattle.dpe_model.specs.State.{Row, State, serial, start}
-use Rattle.dpe_model.specs.Verdict.{used, makes, named, verdict, tests, first_code}
+use Rattle.dpe_model.specs.Verdict.{used, makes, named, uses_row, row_for, is_default_of, verdict, tests, first_code}
 use Rattle.dpe_model.specs.Step.{Outcome, step, rows_left, rows_made, taken_out, judged, stepped}
 use Rattle.dpe_model.specs.History.{Entry, LegalFrom, accepted, accepted_class, request_at, is_accepted, is_zero, reply_code, after, after_all, reply_to}
 use Rattle.dpe_model.proofs.Messages.{code_read}
@@ -67,12 +67,12 @@ left_all P request None rows h = h
 left_all P (destroy old true) (Some row) rows h = filter_all P _ _ (filter_all P _ rows h)
 left_all P (destroy old false) (Some row) rows h = filter_all P _ rows h
 left_all P get_profile (Some row) rows h = filter_all P _ rows h
-left_all P initialize (Some row) rows h = filter_all P _ rows h
+left_all P (initialize m) (Some row) rows h = filter_all P _ rows h
 left_all P (derive d) (Some row) rows h = filter_all P _ rows h
 left_all P (sign d) (Some row) rows h = filter_all P _ rows h
 left_all P (seal d) (Some row) rows h = filter_all P _ rows h
 left_all P (unseal d) (Some row) rows h = filter_all P _ rows h
-left_all P (rotate d) (Some row) rows h = filter_all P _ rows h
+left_all P (rotate d m) (Some row) rows h = filter_all P _ rows h
 
 -- the row that was used is not among them
 not_same : (row other : Row) → not (bytes_eq other.handle row.handle) ≡ true → bytes_eq other.handle row.handle ≡ false
@@ -89,12 +89,12 @@ pub left_gone : (request : Request) (row : Row) (rows : List Row) → AllByRecur
 left_gone (destroy old true) row rows = filter_all _ _ _ (taken_gone row rows)
 left_gone (destroy old false) row rows = taken_gone row rows
 left_gone get_profile row rows = taken_gone row rows
-left_gone initialize row rows = taken_gone row rows
+left_gone (initialize m) row rows = taken_gone row rows
 left_gone (derive d) row rows = taken_gone row rows
 left_gone (sign d) row rows = taken_gone row rows
 left_gone (seal d) row rows = taken_gone row rows
 left_gone (unseal d) row rows = taken_gone row rows
-left_gone (rotate d) row rows = taken_gone row rows
+left_gone (rotate d m) row rows = taken_gone row rows
 
 -- the rows that are made have serials from next on, and below the new next
 pub from_spread_rows : (lo from hi : ℕ) (rows : List Row) → lo ≤ from → Spread from (map issue rows) hi → AllByRecursion (λ row. lo ≤ serial row.handle) rows
@@ -160,12 +160,21 @@ gone_all seed S (e ∷ es) handle h = gone_all seed (after seed S e) es handle (
 
 -- ## The row that an entry uses
 
-named_row : (P : Row → Type 0) (rows : List Row) (named : Option (List ℕ)) (row : Row) → AllByRecursion P rows → option_and_then (λ handle. find (λ row. bytes_eq row.handle handle) rows) named ≡ Some row → P row
-named_row P rows None row h e = cc
-named_row P rows (Some handle) row h e = (found_all P (λ row. bytes_eq row.handle handle) rows row h e).0
+-- the row that a name finds, or that is the default, is found by a test
+pub meant : (P : Row → Type 0) (rows : List Row) (l : ℕ) (name : Option (List ℕ)) (row : Row) → ((p : Row → Bool) → find p rows ≡ Some row → P row) → row_for rows l name ≡ Some row → P row
+meant P rows l None row f e = f (is_default_of l) e
+meant P rows l (Some handle) row f e = f (λ row. bytes_eq row.handle handle) e
+
+-- and so is the one that a command uses
+pub used_is_found : (P : Row → Type 0) (S : State) (l : ℕ) (request : Request) (row : Row) → ((p : Row → Bool) → find p S.rows ≡ Some row → P row) → used S l request ≡ Some row → P row
+used_is_found P S l request row f e = by_use (uses_row request) e
+  where
+    by_use : (b : Bool) → cond b (row_for S.rows l (named request)) None ≡ Some row → P row
+    by_use true e = meant P S.rows l (named request) row f e
+    by_use false e = cc
 
 pub used_all : (P : Row → Type 0) (S : State) (l : ℕ) (request : Request) (row : Row) → AllByRecursion P S.rows → used S l request ≡ Some row → P row
-used_all P S l request row h e = named_row P S.rows (named request) row h e
+used_all P S l request row h e = used_is_found P S l request row (λ p f. (found_all P p S.rows row h f).0) e
 
 -- what an entry accepts is the handle of the row that its command uses
 pub accepts_row : (S : State) (e : Entry) (handle : List ℕ) → accepted S e ≡ Some handle →
@@ -222,17 +231,21 @@ gone_not_accepted S f handle g a =
 
 no_row : (seed : List ℕ) (S : State) (l : ℕ) (request : Request) (handle : List ℕ) → named request ≡ Some handle → first_code (tests seed S l request None) ≡ Some 17
 no_row seed S l get_profile handle n = cc
-no_row seed S l initialize handle n = cc
-no_row seed S l (derive d) handle n = refl
-no_row seed S l (sign d) handle n = refl
-no_row seed S l (seal d) handle n = refl
-no_row seed S l (unseal d) handle n = refl
-no_row seed S l (rotate d) handle n = refl
-no_row seed S l (destroy d r) handle n = refl
+no_row seed S l (initialize m) handle n = cc
+no_row seed S l (derive d) handle n = let k = ap is_some n in rw k refl
+no_row seed S l (sign d) handle n = let k = ap is_some n in rw k refl
+no_row seed S l (seal d) handle n = let k = ap is_some n in rw k refl
+no_row seed S l (unseal d) handle n = let k = ap is_some n in rw k refl
+no_row seed S l (rotate d m) handle n = let k = ap is_some n in rw k refl
+no_row seed S l (destroy d r) handle n = let k = ap is_some n in rw k refl
 
 gone_unused : (S : State) (l : ℕ) (request : Request) (handle : List ℕ) → Gone S handle → named request ≡ Some handle → used S l request ≡ None
 gone_unused S l request handle g n =
-    ap (option_and_then (λ handle. find (λ (row : Row). bytes_eq row.handle handle) S.rows)) n ∙ find_none (λ row. bytes_eq row.handle handle) S.rows g.absent
+    ap (λ name. cond (uses_row request) (row_for S.rows l name) None) n ∙ none (uses_row request)
+  where
+    none : (b : Bool) → cond b (row_for S.rows l (Some handle)) None ≡ None
+    none true = find_none (λ row. bytes_eq row.handle handle) S.rows g.absent
+    none false = refl
 
 gone_verdict : (seed : List ℕ) (S : State) (l : ℕ) (request : Request) (handle : List ℕ) → Gone S handle → named request ≡ Some handle → verdict seed S l request ≡ Some 17
 gone_verdict seed S l request handle g n =

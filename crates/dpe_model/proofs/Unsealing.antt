@@ -1,5 +1,5 @@
 -- What was sealed is unsealed.
-use Rattle.std.proofs.Common.{arith, ◌≡◌, ◌⊎◌, inl, inr, ℕ, ◌+◌, ◌-◌, ◌^◌, ◌≤◌, List, [], ◌∷◌, ◌++◌, refl, ap, sym, ◌∙◌, subst, not, ◌&&◌, Bool, true, false, cond, nat_eq, nat_lt, Option, Some, None, length, fold, is_some, is_none, option_and_then}
+use Rattle.std.proofs.Common.{arith, ◌≡◌, ◌⊎◌, inl, inr, ℕ, ◌+◌, ◌-◌, ◌^◌, ◌≤◌, List, [], ◌∷◌, ◌++◌, refl, ap, sym, ◌∙◌, subst, not, Bool, true, false, cond, nat_eq, nat_lt, Option, Some, None, length, fold, is_some, option_and_then}
 use Rattle.std.proofs.lemmas.Bool.{eq-eqb}
 use Rattle.std.proofs.lemmas.Bool.Decides.{nat_tests}
 use Rattle.std.proofs.lemmas.List.{length-drop}
@@ -15,13 +15,13 @@ use Rattle.dpe_messages.specs.Replies as replies
 use Rattle.dpe_messages.specs.Replies.{reply_payload}
 use Rattle.dpe_messages.proofs.AcceptedLemmas.{accepted_in_ranges}
 use Rattle.dpe_model.specs.State.{Row, State, start, path, mode}
-use Rattle.dpe_model.specs.Verdict.{used, verdict, tests, first_code, makes, named, is_malformed, is_refused, is_kept_from}
+use Rattle.dpe_model.specs.Verdict.{used, verdict, tests, first_code, makes, is_malformed, is_refused, is_kept_from}
 use Rattle.dpe_model.specs.Step.{new_if, answer, text_of, stepped, judged, masks_of, salt_of}
-use Rattle.dpe_model.specs.History.{Entry, LegalFrom, after, after_all, path_at, Sealing, sealing, seal_path, is_accepted, request_at, reply_to, reply_code, reply_bytes}
+use Rattle.dpe_model.specs.History.{Entry, LegalFrom, after, after_all, path_at, Sealing, seal_path, is_accepted, request_at, reply_to, reply_code, reply_bytes}
 use Rattle.dpe_model.specs.Laws.{MayUnseal, SerialsSpent, IsReplyWith, IsRefusedForSerials}
 use Rattle.dpe_model.proofs.Messages.{reply_read, code_read}
 use Rattle.dpe_model.proofs.Accepted.{passed}
-use Rattle.dpe_model.proofs.Issues.{answer_sendable}
+use Rattle.dpe_model.proofs.Issues.{answer_sendable, row_used}
 use Rattle.dpe_model.proofs.Answered.{class_is, answered, path_is}
 use Rattle.dpe_model.proofs.Runs.{legal_head, legal_tail, legal_rest, after_append}
 
@@ -39,7 +39,7 @@ bytes_read (Some h) b s = ap (option_and_then (λ r. bytes_if (value_at 2 r.1)))
 
 seal_row : (seed : List ℕ) (S : State) (e : Entry) (s : SealRequest) (box : List ℕ) → length e.random ≡ 32 → is_accepted e ≡ true → request_at e ≡ Some (seal s) → reply_bytes 2 e.reply ≡ Some box →
     e.reply ≡ reply_payload (answer seed S e.random (seal s) (used S e.locality (seal s))) →
-    (o : Option Row) → used S e.locality (seal s) ≡ o → is_none o && is_some (named (seal s)) ≡ false → SealedAt seed S e s box
+    (o : Option Row) → used S e.locality (seal s) ≡ o → true ≡ is_some o → SealedAt seed S e s box
 seal_row seed S e s box n a c r h None u t = cc
 seal_row seed S e s box n a c r h (Some row) u t =
     let made = boxes.sealed_box (seal_cdi seed (path row)) s.label (masks_of s) (salt_of e.random) s.plain in
@@ -55,7 +55,7 @@ seal_row seed S e s box n a c r h (Some row) u t =
 sealed_at : (seed : List ℕ) (S : State) (e : Entry) (es : List Entry) (s : SealRequest) (box : List ℕ) → LegalFrom seed S (e ∷ es) → is_accepted e ≡ true → request_at e ≡ Some (seal s) → reply_bytes 2 e.reply ≡ Some box → SealedAt seed S e s box
 sealed_at seed S e es s box l a c r =
     let h = answered seed S e es (seal s) l a c in
-    seal_row seed S e s box l.entries.0.random.0 a c r h.reply (used S e.locality (seal s)) refl (passed seed S e.locality (seal s) (used S e.locality (seal s)) h.ok).found
+    seal_row seed S e s box l.entries.0.random.0 a c r h.reply (used S e.locality (seal s)) refl (row_used seed S e.locality (seal s) (passed seed S e.locality (seal s) (used S e.locality (seal s)) h.ok))
 
 -- ## The Unseal
 

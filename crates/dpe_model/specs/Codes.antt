@@ -33,3 +33,9 @@ serials_spent = 25
 
 abbrev pub root_locality : ℕ
 root_locality = 27
+
+abbrev pub no_default : ℕ
+no_default = 28
+
+abbrev pub default_taken : ℕ
+default_taken = 29

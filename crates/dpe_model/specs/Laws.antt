@@ -1,5 +1,6 @@
 -- What holds of each step, and of each legal history.
-use Rattle.std.specs.Prelude.{ℕ, ◌^◌, ◌+◌, ◌<◌, ◌≤◌, ◌==◌, ◌≡◌, ◌≢◌, ◌⊎◌, List, [], ◌∷◌, ◌++◌, true, Option, Some, None, AllPairs, Contains, length, filter, option_and_then, ⊤, if◌then◌else◌}
+use Rattle.std.specs.Prelude.{ℕ, ◌^◌, ◌+◌, ◌<◌, ◌≤◌, ◌==◌, ◌≡◌, ◌≢◌, ◌⊎◌, List, [], ◌∷◌, ◌++◌, true, false, Option, Some, None, IsSomeAnd, AllPairs, Contains, length, filter, option_and_then, ⊤, if◌then◌else◌}
+use Rattle.std.specs.List.{AllByRecursion}
 use Rattle.dpe_inputs.specs.declared.Input.{Input}
 use Rattle.dpe_inputs.specs.Cdi.{attest_cdi, seal_cdi, signature}
 use Rattle.dpe_box.specs.declared.policy.Policy.{Policy}
@@ -7,7 +8,7 @@ use Rattle.dpe_box.specs.Sealed.{admits, opened_as, opened, sealed_box}
 use Rattle.dpe_messages.specs.Request.{Request, SealRequest, UnsealRequest, sign, seal, unseal}
 use Rattle.dpe_messages.specs.Replies.{made, reply_payload}
 use Rattle.dpe_model.specs.State.{Row, State, Valid, path, mode, last_serial}
-use Rattle.dpe_model.specs.Verdict.{makes, named, used}
+use Rattle.dpe_model.specs.Verdict.{makes, named, uses_row, used}
 use Rattle.dpe_model.specs.Step.{masks_of, salt_of, step}
 use Rattle.dpe_model.specs.History.{Entry, IsEntry, Legal, state_after, reply_to, reply_code, reply_bytes, request_at, is_accepted, accepted, path_at, seal_path, seal_path_at, issued, all_issued, entries_of_caller, entries_of_connection}
 use Rattle.dpe_model.specs.Codes as code
@@ -58,14 +59,21 @@ SpentIsSpent seed first H =
 abbrev pub HandlesDiffer : List Entry → Type 0
 HandlesDiffer H = AllPairs (λ a b. a.0 ≢ b.0) (all_issued H)
 
--- Issued before: the handle that an entry accepts was issued by an earlier entry, to this entry's locality.
--- Since handles differ, one earlier entry alone issued it.
+-- one entry issues the handle, to this locality, and no other one issues it at all
+abbrev pub IssuedByOne : List Entry → List ℕ → ℕ → Type 0
+IssuedByOne H handle locality =
+    (before after : List Entry) × (d : Entry) × (H ≡ before ++ d ∷ after)
+    × Contains (issued d) (handle, locality)
+    × AllByRecursion (λ issue. issue.0 ≢ handle) (all_issued (before ++ after))
+
+-- Issued before: the handle that an entry accepts was issued by exactly one earlier entry, to this entry's
+-- locality.
 abbrev pub IssuedBefore : List ℕ → ℕ → List Entry → Type 0
 IssuedBefore seed first H =
     (before rest : List Entry) (e : Entry) (handle : List ℕ) →
     H ≡ before ++ e ∷ rest →
     accepted (state_after seed first before) e ≡ Some handle →
-    Contains (all_issued before) (handle, e.locality)
+    IssuedByOne before handle e.locality
 
 -- ## Unsealing
 
@@ -131,11 +139,25 @@ FoldedInputs seed first H =
 
 -- ## The accepted handle
 
--- the handle that the entry's command names, where the reply's code is 0 and the command names one
-abbrev pub named_if_accepted : Entry → Option (List ℕ)
-named_if_accepted e = if is_accepted e then option_and_then named (request_at e) else None
+-- the handle of the live row that is the default of the entry's locality
+abbrev pub IsDefaultHandle : State → Entry → List ℕ → Type 0
+IsDefaultHandle S e handle =
+    (row : Row) × Contains S.rows row × (row.default ≡ true) × (row.locality ≡ e.locality) × (row.handle ≡ handle)
 
--- An entry accepts the handle that its command names.
-abbrev pub AcceptsNamed : List ℕ → ℕ → List Entry → Type 0
-AcceptsNamed seed first H =
-    (before rest : List Entry) (e : Entry) → H ≡ before ++ e ∷ rest → accepted (state_after seed first before) e ≡ named_if_accepted e
+-- Which handle an entry accepts in a state: none where it is refused, is no command or uses no context; else the one
+-- that its command names; and where it names none, that of its locality's default.
+pub record Accepts (S : State) (e : Entry) : Type 0 where
+  pub refused : is_accepted e ≡ false → accepted S e ≡ None
+  pub unread : request_at e ≡ None → accepted S e ≡ None
+  pub rowless : (request : Request) → request_at e ≡ Some request → uses_row request ≡ false → accepted S e ≡ None
+  pub by_name :
+      (request : Request) (handle : List ℕ) → is_accepted e ≡ true → request_at e ≡ Some request →
+      named request ≡ Some handle → accepted S e ≡ Some handle
+  pub by_default :
+      (request : Request) → is_accepted e ≡ true → request_at e ≡ Some request →
+      uses_row request ≡ true → named request ≡ None → IsSomeAnd (accepted S e) (IsDefaultHandle S e)
+
+-- Each entry of a legal history accepts the handle of the row that it uses.
+abbrev pub AcceptsUsed : List ℕ → ℕ → List Entry → Type 0
+AcceptsUsed seed first H =
+    (before rest : List Entry) (e : Entry) → H ≡ before ++ e ∷ rest → Accepts (state_after seed first before) e

@@ -134,12 +134,12 @@ fn answer_without_row(
 {
     match command {
         Command::GetProfile => write_reply(&Reply::Profile, out),
-        Command::Initialize => write_reply(&Reply::Handle(new0(state, random)), out),
+        Command::Initialize { .. } => write_reply(&Reply::Handle(new0(state, random)), out),
         Command::Derive(_) => write_reply(&Reply::Done, out),
         Command::Sign(_) => write_reply(&Reply::Done, out),
         Command::Seal(_) => write_reply(&Reply::Done, out),
         Command::Unseal(_) => write_reply(&Reply::Done, out),
-        Command::Rotate(_) => write_reply(&Reply::Done, out),
+        Command::Rotate { .. } => write_reply(&Reply::Done, out),
         Command::Destroy { .. } => write_reply(&Reply::Done, out),
     }
 }
@@ -166,9 +166,9 @@ fn answer_with_row(
         Command::Sign(sign) => write_signature(seed, state, random, sign, row, out),
         Command::Seal(request) => write_box(seed, state, random, request, row, out),
         Command::Unseal(request) => write_text(seed, state, random, request, row, out),
-        Command::Rotate(_) => write_reply(&Reply::Handle(new0(state, random)), out),
+        Command::Rotate { .. } => write_reply(&Reply::Handle(new0(state, random)), out),
         Command::GetProfile => write_reply(&Reply::Done, out),
-        Command::Initialize => write_reply(&Reply::Done, out),
+        Command::Initialize { .. } => write_reply(&Reply::Done, out),
         Command::Destroy { .. } => write_reply(&Reply::Done, out),
     }
 }

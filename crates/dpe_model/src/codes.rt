@@ -27,3 +27,7 @@ pub const POLICY_REFUSED: u8 = 24;
 pub const SERIALS_SPENT: u8 = 25;
 
 pub const ROOT_LOCALITY: u8 = 27;
+
+pub const NO_DEFAULT: u8 = 28;
+
+pub const DEFAULT_TAKEN: u8 = 29;

@@ -1,13 +1,14 @@
 //! What an accepted command does to the rows.
 ghost use Rattle.std.specs.Prelude.{◌≡◌, ◌+◌, ◌≤◌, ◌++◌, ◌∷◌, [], Option, Some, None, IfOk, if◌then◌else◌};
 ghost use Rattle.dpe_messages.specs.Commands.{request_of, derive_request, configuration_of};
-ghost use Rattle.dpe_messages.specs.Request.{derive as derive_of, hidden_or_zeros, locality_or};
+ghost use Rattle.dpe_messages.specs.Request.{derive as derive_of, hidden_or_zeros};
 ghost use Rattle.dpe_model.specs.State.{last_serial};
 ghost use Rattle.dpe_model.specs.Verdict.{makes as made_by};
-ghost use Rattle.dpe_model.specs.Step.{configuration_input as configuration_of_request, input_of as input_of_request, new1 as new1_of, root as root_of, child as child_of, again as kept, renamed, rows_left as left_by, rows_made as rows_made_by};
+ghost use Rattle.dpe_model.specs.Step.{configuration_input as configuration_of_request, input_of as input_of_request, new0 as new0_of, new1 as new1_of, root as root_of, child as child_of, again as kept, marked, renamed, rows_left as left_by, rows_made as rows_made_by};
 ghost use Rattle.dpe_model.specs.Plain.{row_of, rows_of};
 ghost use Rattle.dpe_model.specs.PlainState.{seen, state_of};
 
+use crate::asked::target;
 use crate::lineage::Birth;
 use crate::rows::{PlainRow, copied, family_out, taken_out, under_handle};
 use crate::state::{PlainState, new0, new1};
@@ -33,15 +34,6 @@ fn hidden(derive: &Derive<'_>) -> [u8; 64]
     }
 }
 
-fn target(locality: u8, derive: &Derive<'_>) -> u8
-    ensures { result ≡ locality_or locality (derive_request derive.now) }
-{
-    match derive.locality {
-        None => locality,
-        Some(target) => target,
-    }
-}
-
 fn input_of(derive: &Derive<'_>) -> Input
     ensures { result ≡ input_of_request (derive_request derive.now) }
 {
@@ -54,13 +46,14 @@ fn input_of(derive: &Derive<'_>) -> Input
     }
 }
 
-fn root(alloc: Global, handle: [u8; 16]) -> PlainRow
-    ensures { row_of result ≡ root_of handle }
+fn root(alloc: Global, handle: [u8; 16], default: bool) -> PlainRow
+    ensures { row_of result ≡ root_of handle default }
 {
     PlainRow {
         handle,
         locality: 0,
         may_derive: true,
+        default,
         lineage: Vec::new(alloc),
     }
 }
@@ -85,6 +78,7 @@ fn child(
         handle: new0(state, random),
         locality: target(locality, derive),
         may_derive: derive.may_derive,
+        default: derive.child_default,
         lineage,
     })
 }
@@ -113,6 +107,22 @@ fn with_retained(
         return Ok(rows);
     }
     with_row(rows, under_handle(alloc, row, &new0(state, random))?)
+}
+
+// The row under the first new handle, as a default of its locality or as none, behind the others.
+fn with_rotated(
+    alloc: Global,
+    state: &PlainState,
+    random: &[u8; 32],
+    row: &PlainRow,
+    default: bool,
+    rows: Vec<PlainRow>,
+) -> Result<Vec<PlainRow>, AllocError>
+    ensures { IfOk result (λ more. rows_of more.items ≡ rows_of rows.items
+        ++ marked (renamed (row_of row.now) (new0_of (state_of state.now) random.now)) default ∷ []) }
+{
+    let row = under_handle(alloc, row, &new0(state, random))?;
+    with_row(rows, PlainRow { default, ..row })
 }
 
 // The parent under the second new handle, where it is retained, behind the others.
@@ -153,12 +163,12 @@ fn rows_left_with(
             }
         }
         Command::GetProfile => Ok(left),
-        Command::Initialize => Ok(left),
+        Command::Initialize { .. } => Ok(left),
         Command::Derive(_) => Ok(left),
         Command::Sign(_) => Ok(left),
         Command::Seal(_) => Ok(left),
         Command::Unseal(_) => Ok(left),
-        Command::Rotate(_) => Ok(left),
+        Command::Rotate { .. } => Ok(left),
     }
 }
 
@@ -213,9 +223,9 @@ fn rows_made_with(
         Command::Sign(sign) => with_retained(alloc, state, random, row, sign.retain, rows),
         Command::Seal(seal) => with_retained(alloc, state, random, row, seal.retain, rows),
         Command::Unseal(unseal) => with_retained(alloc, state, random, row, unseal.retain, rows),
-        Command::Rotate(_) => with_retained(alloc, state, random, row, true, rows),
+        Command::Rotate { default, .. } => with_rotated(alloc, state, random, row, *default, rows),
         Command::GetProfile => Ok(rows),
-        Command::Initialize => Ok(rows),
+        Command::Initialize { .. } => Ok(rows),
         Command::Destroy { .. } => Ok(rows),
     }
 }
@@ -232,13 +242,16 @@ fn rows_made_without(
         ++ rows_made_by (state_of state.now) locality random.now (request_of command.now) None) }
 {
     match command {
-        Command::Initialize => with_row(rows, root(alloc, new0(state, random))),
+        Command::Initialize { default } => with_row(
+            rows,
+            root(alloc, new0(state, random), *default),
+        ),
         Command::GetProfile => Ok(rows),
         Command::Derive(_) => Ok(rows),
         Command::Sign(_) => Ok(rows),
         Command::Seal(_) => Ok(rows),
         Command::Unseal(_) => Ok(rows),
-        Command::Rotate(_) => Ok(rows),
+        Command::Rotate { .. } => Ok(rows),
         Command::Destroy { .. } => Ok(rows),
     }
 }

@@ -1,6 +1,6 @@
 ghost use Rattle.std.specs.Prelude.{ℕ, List};
 ghost use Rattle.dpe_model.specs.History.{Entry, Legal};
-ghost use Rattle.dpe_model.specs.Laws.{StepKeepsValid, FrontIsLegal, StepIsLegal, StateIsValid, SpentIsSpent, HandlesDiffer, IssuedBefore, Unseals, HandleLaws, FoldedInputs, AcceptsNamed, PartsOfHistories};
+ghost use Rattle.dpe_model.specs.Laws.{StepKeepsValid, FrontIsLegal, StepIsLegal, StateIsValid, SpentIsSpent, HandlesDiffer, IssuedBefore, Unseals, HandleLaws, FoldedInputs, AcceptsUsed, PartsOfHistories};
 
 /// Each step leads from a valid state to a valid state.
 pub fn step_keeps_valid()
@@ -32,7 +32,7 @@ pub fn handles_differ()
     ensures { (seed : List ℕ) (first : ℕ) (H : List Entry) → Legal seed first H → HandlesDiffer H }
 {}
 
-/// A handle that an entry accepts was issued before, to the entry's locality.
+/// A handle that an entry accepts was issued by exactly one earlier entry, to the entry's locality.
 pub fn issued_before()
     ensures { (seed : List ℕ) (first : ℕ) (H : List Entry) → Legal seed first H → IssuedBefore seed first H }
 {}
@@ -52,9 +52,10 @@ pub fn folded_inputs()
     ensures { (seed : List ℕ) (first : ℕ) (H : List Entry) → Legal seed first H → FoldedInputs seed first H }
 {}
 
-/// The handle that an entry accepts is the one that its command names.
-pub fn accepted_is_named()
-    ensures { (seed : List ℕ) (first : ℕ) (H : List Entry) → Legal seed first H → AcceptsNamed seed first H }
+/// The handle that an entry accepts is that of the row that it uses: the one that its command names, or the default of
+/// its locality.
+pub fn accepted_is_used()
+    ensures { (seed : List ℕ) (first : ℕ) (H : List Entry) → Legal seed first H → AcceptsUsed seed first H }
 {}
 
 /// The entries of a caller, and of one of its connections, are parts of the history in its order.

@@ -28,7 +28,7 @@ pub struct LiveRow {
     pub handle: [u8; 16],
     /// 0 to 7.
     pub locality: u8,
-    /// How many inputs its path has, 0 to 16.
+    /// How many inputs its path has, 0 to 32.
     pub depth: u8,
     /// The mode of its last input, or 0.
     pub mode: u8,

@@ -1,7 +1,8 @@
-ghost use Rattle.std.specs.Prelude.{◌≡◌, ◌++◌, ◌∷◌, [], Option, find, IfOk};
-ghost use Rattle.std.specs.List.{starts_with};
+ghost use Rattle.std.specs.Prelude.{◌≡◌, ◌&&◌, not, ◌++◌, ◌∷◌, [], Option, find, IfOk};
+ghost use Rattle.std.specs.List.{starts_with, list_any};
 ghost use Rattle.std.specs.Option.{option_map};
 ghost use Rattle.std.specs.Str.{bytes_eq};
+ghost use Rattle.dpe_model.specs.Verdict.{is_default_of as is_default_at};
 ghost use Rattle.dpe_model.specs.Step.{renamed, taken_out as without_row, family_out as without_family, same_birth};
 ghost use Rattle.dpe_model.specs.Plain.{row_of, rows_of};
 
@@ -14,6 +15,8 @@ pub struct PlainRow {
     pub handle: [u8; 16],
     pub locality: u8,
     pub may_derive: bool,
+    /// Whether it is the default context of its locality.
+    pub default: bool,
     pub lineage: Vec<Birth>,
 }
 
@@ -35,6 +38,44 @@ pub fn find_row<'a>(rows: &'a [PlainRow], handle: &[u8; 16]) -> Option<&'a Plain
     None
 }
 
+/// Whether the row is the default of a locality.
+pub fn is_default_of(locality: u8, row: &PlainRow) -> bool
+    ensures { result ≡ is_default_at locality (row_of row.now) }
+{
+    row.default && row.locality == locality
+}
+
+/// The row that is the default of a locality.
+pub fn find_default(rows: &[PlainRow], locality: u8) -> Option<&PlainRow>
+    ensures { option_map (λ r. row_of r.now) result ≡ find (is_default_at locality) (rows_of rows.now) }
+{
+    for row in rows {
+        if is_default_of(locality, row) {
+            return Some(row);
+        }
+    }
+    None
+}
+
+fn is_other_default(other: &PlainRow, row: &PlainRow, locality: u8) -> bool
+    ensures { result ≡ (not (bytes_eq other.now.handle row.now.handle) && is_default_at locality (row_of other.now)) }
+{
+    !has_handle(other, &row.handle) && is_default_of(locality, other)
+}
+
+/// Whether a row other than this one is the default of a locality.
+pub fn is_default_elsewhere(rows: &[PlainRow], row: &PlainRow, locality: u8) -> bool
+    ensures { result ≡ list_any (λ other. not (bytes_eq other.handle row.now.handle) && is_default_at locality other)
+        (rows_of rows.now) }
+{
+    for other in rows {
+        if is_other_default(other, row, locality) {
+            return true;
+        }
+    }
+    false
+}
+
 /// The row under another handle.
 pub fn under_handle(
     alloc: Global,
@@ -47,6 +88,7 @@ pub fn under_handle(
         handle: *handle,
         locality: row.locality,
         may_derive: row.may_derive,
+        default: row.default,
         lineage: Vec::from_slice(alloc, &row.lineage)?,
     })
 }

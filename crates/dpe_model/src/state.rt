@@ -8,8 +8,8 @@ ghost use Rattle.dpe_model.specs.Step.{new0 as new0_of, new1 as new1_of};
 ghost use Rattle.dpe_model.specs.Plain.{row_of};
 ghost use Rattle.dpe_model.specs.PlainState.{seen, state_of};
 
-use crate::asked::named;
-use crate::rows::{PlainRow, find_row};
+use crate::asked::{named, uses_row};
+use crate::rows::{PlainRow, find_default, find_row};
 use dpe_inputs::{Cdis, Count, first, next};
 use dpe_messages::Command;
 
@@ -26,8 +26,11 @@ pub struct PlainState {
 pub fn used<'a>(state: &'a PlainState, locality: u8, command: &Command<'_>) -> Option<&'a PlainRow>
     ensures { seen result ≡ used_by (state_of state.now) locality (request_of command.now) }
 {
+    if !uses_row(command) {
+        return None;
+    }
     match named(command) {
-        None => None,
+        None => find_default(&state.rows, locality),
         Some(handle) => find_row(&state.rows, handle),
     }
 }

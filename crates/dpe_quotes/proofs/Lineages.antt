@@ -1,4 +1,4 @@
--- The lineages of live contexts have at most 16 inputs, and each of them is one that a quote may hold.
+-- The lineages of live contexts have at most 32 inputs, and each of them is one that a quote may hold.
 use Rattle.std.proofs.Common.{◌≡◌, ℕ, ◌+◌, ◌≤◌, List, [], ◌∷◌, ◌++◌, refl, sym, subst, Bool, true, false, cond, nat_eq, Option, Some, None, IfSome, All, length, map, replicate, unwrap_or, arith, length-append}
 use Rattle.std.specs.List.{AllByRecursion}
 use Rattle.std.proofs.lemmas.Bool.Decides.{nat_tests}
@@ -44,16 +44,16 @@ is_input d h = record {
 -- ## The rows of a step
 
 record IsShort (lineage : List Birth) : Type 0 where
-  depth : length lineage ≤ 16
+  depth : length lineage ≤ 32
   inputs : AllByRecursion (λ birth. IsInput birth.input) lineage
 
 abbrev IsShortRow : Row → Type 0
 IsShortRow row = IsShort row.lineage
 
-not_deep : (n : ℕ) → n ≤ 16 → nat_eq n 16 ≡ false → n + 1 ≤ 16
+not_deep : (n : ℕ) → n ≤ 32 → nat_eq n 32 ≡ false → n + 1 ≤ 32
 not_deep n h k = grind (arith, nat_tests)
 
-short_child : (serial : ℕ) (input : Input) (lineage : List Birth) → IsInput input → nat_eq (length lineage) 16 ≡ false → IsShort lineage →
+short_child : (serial : ℕ) (input : Input) (lineage : List Birth) → IsInput input → nat_eq (length lineage) 32 ≡ false → IsShort lineage →
     IsShort (lineage ++ record { serial = serial; input = input } ∷ [])
 short_child serial input lineage is shallow h =
     let birth : Birth = record { serial = serial; input = input } in
@@ -74,24 +74,24 @@ retained_short row handle false h = tt
 made_short : (seed : List ℕ) (S : State) (l : ℕ) (random : List ℕ) (request : Request) (row : Row) → InRanges request → Passed seed S l request (Some row) → IsShortRow row →
     AllByRecursion IsShortRow (rows_made S l random request (Some row))
 made_short seed S l random get_profile row r t h = tt
-made_short seed S l random initialize row r t h = tt
+made_short seed S l random (initialize default) row r t h = tt
 made_short seed S l random (derive d) row r t h =
     (short_child S.next (input_of d) row.lineage (is_input d r) t.shallow h, retained_short row (new1 S random) d.retain h)
 made_short seed S l random (sign s) row r t h = again_short S random row s.retain h
 made_short seed S l random (seal s) row r t h = again_short S random row s.retain h
 made_short seed S l random (unseal u) row r t h = again_short S random row u.retain h
-made_short seed S l random (rotate handle) row r t h = (h, tt)
+made_short seed S l random (rotate handle default) row r t h = (h, tt)
 made_short seed S l random (destroy handle recursive) row r t h = tt
 
 -- and where it uses none
 made_of_none : (S : State) (l : ℕ) (random : List ℕ) (request : Request) → AllByRecursion IsShortRow (rows_made S l random request None)
 made_of_none S l random get_profile = tt
-made_of_none S l random initialize = (record { depth = omega arith; inputs = tt }, tt)
+made_of_none S l random (initialize default) = (record { depth = omega arith; inputs = tt }, tt)
 made_of_none S l random (derive d) = tt
 made_of_none S l random (sign s) = tt
 made_of_none S l random (seal s) = tt
 made_of_none S l random (unseal u) = tt
-made_of_none S l random (rotate handle) = tt
+made_of_none S l random (rotate handle default) = tt
 made_of_none S l random (destroy handle recursive) = tt
 
 -- ## All live rows

@@ -1,5 +1,5 @@
 -- What a script means: what is sent on each link and what is printed, as functions of its lines and of the answers.
-use Rattle.std.specs.Prelude.{ℕ, ◌==◌, ◌≤◌, not, List, [], ◌∷◌, ◌++◌, length, codes, replicate, filter, flat_map, Option, Some, None, is_some, if◌then◌else◌, bytes_eq, ◌⊎◌}
+use Rattle.std.specs.Prelude.{ℕ, ◌==◌, ◌≤◌, not, List, [], ◌∷◌, ◌++◌, length, codes, replicate, filter, flat_map, Option, Some, None, option_map, is_some, if◌then◌else◌, bytes_eq, ◌⊎◌}
 use Rattle.std.specs.Fmt.{decimal}
 use Rattle.hex.specs.Hex.{encode_lower}
 use Rattle.dpe_link.specs.Frames.{frame}
@@ -42,12 +42,12 @@ answer_payload (response r) = reply_payload r
 -- the command that a reply has to answer; none for `raw`
 abbrev pub asked_of : Act → Option Asked
 asked_of profile = Some asked.GetProfile
-asked_of (initialize fresh) = Some asked.Initialize
+asked_of (initialize fresh is_default) = Some asked.Initialize
 asked_of (derive d) = Some asked.Derive
 asked_of (sign s) = Some asked.Sign
 asked_of (seal s) = Some asked.Seal
 asked_of (unseal u) = Some asked.Unseal
-asked_of (rotate old fresh) = Some asked.Rotate
+asked_of (rotate old fresh is_default) = Some asked.Rotate
 asked_of (destroy old recursive) = Some asked.Destroy
 asked_of (raw b) = None
 
@@ -82,9 +82,14 @@ after v act (response r) = record {
 
 -- ## What is sent
 
-abbrev pub derive_request : Values → DeriveLine → request.DeriveRequest
-derive_request v d = record {
-  handle = v.handles d.old;
+-- the handle of a name, none where a command leaves the handle out
+abbrev pub handle_if : Values → Option (List ℕ) → Option (List ℕ)
+handle_if v old = option_map v.handles old
+
+-- what a `derive` line asks for with this handle
+abbrev pub derive_command : Option (List ℕ) → DeriveLine → request.Request
+derive_command used d = request.derive (record {
+  handle = used;
   code = d.code;
   config = d.config;
   authority = d.authority;
@@ -93,18 +98,19 @@ derive_request v d = record {
   retain = is_some d.keep;
   may_derive = not d.is_final;
   locality = d.locality;
-}
+  child_default = d.is_default;
+})
 
 -- the payload of a command, its names taken for their values
 abbrev pub sent_payload : Values → Act → List ℕ
 sent_payload v profile = command_payload request.get_profile
-sent_payload v (initialize fresh) = command_payload request.initialize
-sent_payload v (derive d) = command_payload (request.derive (derive_request v d))
+sent_payload v (initialize fresh is_default) = command_payload (request.initialize is_default)
+sent_payload v (derive d) = command_payload (derive_command (handle_if v d.old) d)
 sent_payload v (sign s) =
-    command_payload (request.sign (record { handle = v.handles s.old; label = s.label; retain = is_some s.keep; message = s.message }))
+    command_payload (request.sign (record { handle = handle_if v s.old; label = s.label; retain = is_some s.keep; message = s.message }))
 sent_payload v (seal s) =
     command_payload (request.seal (record {
-      handle = v.handles s.old;
+      handle = handle_if v s.old;
       label = s.label;
       retain = is_some s.keep;
       localities = s.localities;
@@ -112,9 +118,9 @@ sent_payload v (seal s) =
       plain = s.plain;
     }))
 sent_payload v (unseal u) =
-    command_payload (request.unseal (record { handle = v.handles u.old; label = u.label; retain = is_some u.keep; sealed = v.boxes u.sealed }))
-sent_payload v (rotate old fresh) = command_payload (request.rotate (v.handles old))
-sent_payload v (destroy old recursive) = command_payload (request.destroy (v.handles old) recursive)
+    command_payload (request.unseal (record { handle = handle_if v u.old; label = u.label; retain = is_some u.keep; sealed = v.boxes u.sealed }))
+sent_payload v (rotate old fresh is_default) = command_payload (request.rotate (handle_if v old) is_default)
+sent_payload v (destroy old recursive) = command_payload (request.destroy (handle_if v old) recursive)
 sent_payload v (raw b) = b
 
 -- a payload on a link

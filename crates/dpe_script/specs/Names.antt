@@ -3,14 +3,14 @@ use Rattle.std.specs.Prelude.{◌≡◌, ℕ, ◌+◌, Bool, true, ◌&&◌, Lis
 use Rattle.std.specs.List.{list_any}
 use Rattle.dpe_grammar.specs.Acts.{Act, initialize, derive, sign, seal, unseal, rotate, destroy}
 
--- the handle's name that a command uses
+-- the handle's name that a command uses, none where it leaves the handle out
 abbrev pub old_of : Act → Option (List ℕ)
-old_of (derive d) = Some d.old
-old_of (sign s) = Some s.old
-old_of (seal s) = Some s.old
-old_of (unseal u) = Some u.old
-old_of (rotate old fresh) = Some old
-old_of (destroy old recursive) = Some old
+old_of (derive d) = d.old
+old_of (sign s) = s.old
+old_of (seal s) = s.old
+old_of (unseal u) = u.old
+old_of (rotate old fresh is_default) = old
+old_of (destroy old recursive) = old
 old_of act = None
 
 -- the name of the box that `unseal` uses
@@ -20,9 +20,9 @@ opened_of act = None
 
 -- the name that the new handle of a command gets: that of the root, of the child, or of the same context
 abbrev pub fresh_of : Act → Option (List ℕ)
-fresh_of (initialize fresh) = Some fresh
+fresh_of (initialize fresh is_default) = Some fresh
 fresh_of (derive d) = Some d.fresh
-fresh_of (rotate old fresh) = Some fresh
+fresh_of (rotate old fresh is_default) = Some fresh
 fresh_of act = None
 
 -- the name that the new handle of a retained context gets

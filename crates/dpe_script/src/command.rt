@@ -1,9 +1,9 @@
 //! Writes the payload of a command line, its names taken for their values.
 ghost use Rattle.std.specs.Prelude.{◌≡◌, ◌≤◌, length, take, []};
 ghost use Rattle.dpe_messages.specs.Commands.{configuration_of};
-ghost use Rattle.dpe_messages.specs.CommandRows.{IsShort as IsConfigShort};
-ghost use Rattle.dpe_grammar.specs.Acts.{act_of, derive_line, sign_line, seal_line, unseal_line, IsInRange, IsDeriveInRange, IsShort, config_of, derive as a_derive, sign as a_sign, seal as a_seal, unseal as an_unseal, rotate, destroy};
-ghost use Rattle.dpe_script.specs.Meaning.{sent_payload};
+ghost use Rattle.dpe_messages.specs.CommandRows.{command_payload, IsShort as IsConfigShort};
+ghost use Rattle.dpe_grammar.specs.Acts.{act_of, name_if, derive_line, sign_line, seal_line, unseal_line, IsInRange, IsDeriveInRange, IsShort, config_of, derive as a_derive, sign as a_sign, seal as a_seal, unseal as an_unseal, rotate, destroy};
+ghost use Rattle.dpe_script.specs.Meaning.{derive_command, sent_payload};
 ghost use Rattle.dpe_script.specs.CodeValues.{values_of, HasShortBoxes};
 
 use crate::values::Values;
@@ -25,16 +25,22 @@ fn config_in<'c>(config: &'c Config<'_>, room: &'c mut [u8; 1_024]) -> dpe_messa
     }
 }
 
-fn write_derive(derive: &Derive<'_>, values: &Values<'_>, room: &mut [u8; 4096]) -> usize
-    requires { IsDeriveInRange (derive_line derive.now) }
+// Writes what a `derive` line asks for, its handle and its configuration being found already.
+fn write_found<'c>(
+    derive: &'c Derive<'_>,
+    handle: Option<&'c [u8; 16]>,
+    config: dpe_messages::Config<'c>,
+    room: &mut [u8; 4096],
+) -> usize
+    requires range { IsDeriveInRange (derive_line derive.now) }
+    requires config { configuration_of config ≡ config_of derive.now.config }
+    requires short { IsConfigShort config }
     ensures within { result ≤ 4096 }
-    ensures written { take result room.new ≡ sent_payload (values_of values.now) (a_derive (derive_line derive.now)) }
+    ensures written { take result room.new ≡ command_payload (derive_command (name_if handle.entry) (derive_line derive.now)) }
 {
-    let mut descriptor = [0; 1_024];
-    let config = config_in(&derive.config, &mut descriptor);
     write_command(
         &Command::Derive(dpe_messages::Derive {
-            handle: &values.handle(derive.old),
+            handle,
             code: &derive.code,
             config,
             authority: &derive.authority,
@@ -43,9 +49,21 @@ fn write_derive(derive: &Derive<'_>, values: &Values<'_>, room: &mut [u8; 4096])
             retain: derive.keep.is_some(),
             may_derive: !derive.is_final,
             locality: derive.locality,
+            child_default: derive.is_default,
         }),
         room,
     )
+}
+
+fn write_derive(derive: &Derive<'_>, values: &Values<'_>, room: &mut [u8; 4096]) -> usize
+    requires { IsDeriveInRange (derive_line derive.now) }
+    ensures within { result ≤ 4096 }
+    ensures written { take result room.new ≡ sent_payload (values_of values.now) (a_derive (derive_line derive.now)) }
+{
+    let handle = values.handle_if(derive.old);
+    let mut descriptor = [0; 1_024];
+    let config = config_in(&derive.config, &mut descriptor);
+    write_found(derive, handle.as_ref(), config, room)
 }
 
 fn write_sign(sign: &Sign<'_>, values: &Values<'_>, room: &mut [u8; 4096]) -> usize
@@ -59,7 +77,7 @@ fn write_sign(sign: &Sign<'_>, values: &Values<'_>, room: &mut [u8; 4096]) -> us
     let message_len = decode(&sign.message, &mut message);
     write_command(
         &Command::Sign(dpe_messages::Sign {
-            handle: &values.handle(sign.old),
+            handle: values.handle_if(sign.old).as_ref(),
             label: &label[..label_len],
             retain: sign.keep.is_some(),
             message: &message[..message_len],
@@ -79,7 +97,7 @@ fn write_seal(seal: &Seal<'_>, values: &Values<'_>, room: &mut [u8; 4096]) -> us
     let plain_len = decode(&seal.plain, &mut plain);
     write_command(
         &Command::Seal(dpe_messages::Seal {
-            handle: &values.handle(seal.old),
+            handle: values.handle_if(seal.old).as_ref(),
             label: &label[..label_len],
             retain: seal.keep.is_some(),
             localities: seal.localities,
@@ -100,7 +118,7 @@ fn write_unseal(unseal: &Unseal<'_>, values: &Values<'_>, room: &mut [u8; 4096])
     let label_len = decode(&unseal.label, &mut label);
     write_command(
         &Command::Unseal(dpe_messages::Unseal {
-            handle: &values.handle(unseal.old),
+            handle: values.handle_if(unseal.old).as_ref(),
             label: &label[..label_len],
             retain: unseal.keep.is_some(),
             sealed: values.sealed(unseal.sealed),
@@ -109,21 +127,36 @@ fn write_unseal(unseal: &Unseal<'_>, values: &Values<'_>, room: &mut [u8; 4096])
     )
 }
 
-fn write_rotate(old: &[u8], values: &Values<'_>, room: &mut [u8; 4096]) -> usize
+fn write_rotate(
+    old: Option<&[u8]>,
+    is_default: bool,
+    values: &Values<'_>,
+    room: &mut [u8; 4096],
+) -> usize
     ensures within { result ≤ 4096 }
-    ensures written { take result room.new ≡ sent_payload (values_of values.now) (rotate old.now []) }
+    ensures written { take result room.new ≡ sent_payload (values_of values.now) (rotate (name_if old.entry) [] is_default) }
 {
-    write_command(&Command::Rotate(&values.handle(old)), room)
+    write_command(
+        &Command::Rotate {
+            handle: values.handle_if(old).as_ref(),
+            default: is_default,
+        },
+        room,
+    )
 }
 
-fn write_destroy(old: &[u8], recursive: bool, values: &Values<'_>, room: &mut [u8; 4096]) -> usize
+fn write_destroy(
+    old: Option<&[u8]>,
+    recursive: bool,
+    values: &Values<'_>,
+    room: &mut [u8; 4096],
+) -> usize
     ensures within { result ≤ 4096 }
-    ensures written { take result room.new ≡ sent_payload (values_of values.now) (destroy old.now recursive) }
+    ensures written { take result room.new ≡ sent_payload (values_of values.now) (destroy (name_if old.entry) recursive) }
 {
-    let handle = values.handle(old);
     write_command(
         &Command::Destroy {
-            handle: &handle,
+            handle: values.handle_if(old).as_ref(),
             recursive,
         },
         room,
@@ -139,13 +172,22 @@ pub fn write_act(act: &Act<'_>, values: &Values<'_>, room: &mut [u8; 4096]) -> u
 {
     match act {
         Act::Profile => write_command(&Command::GetProfile, room),
-        Act::Initialize { .. } => write_command(&Command::Initialize, room),
+        Act::Initialize { is_default, .. } => write_command(
+            &Command::Initialize {
+                default: *is_default,
+            },
+            room,
+        ),
         Act::Derive(derive) => write_derive(derive, values, room),
         Act::Sign(sign) => write_sign(sign, values, room),
         Act::Seal(seal) => write_seal(seal, values, room),
         Act::Unseal(unseal) => write_unseal(unseal, values, room),
-        Act::Rotate { old, .. } => write_rotate(old, values, room),
-        Act::Destroy { old, recursive } => write_destroy(old, *recursive, values, room),
+        Act::Rotate {
+            old,
+            is_default,
+            ..
+        } => write_rotate(*old, *is_default, values, room),
+        Act::Destroy { old, recursive } => write_destroy(*old, *recursive, values, room),
         Act::Raw(value) => decode(value, room),
     }
 }

@@ -9,19 +9,19 @@ ghost use Rattle.dpe_script.specs.CodeNames.{names_of};
 use dpe_grammar::Act;
 use std::alloc::{AllocError, Global};
 
-// The handle's name that a command uses.
+// The handle's name that a command uses, none where it leaves the handle out.
 fn old_of<'a>(act: &Act<'a>) -> Option<&'a [u8]>
     ensures { option_map (λ t. t.now) result ≡ old_name (act_of act.now) }
 {
     match act {
         Act::Profile => None,
         Act::Initialize { .. } => None,
-        Act::Derive(derive) => Some(derive.old),
-        Act::Sign(sign) => Some(sign.old),
-        Act::Seal(seal) => Some(seal.old),
-        Act::Unseal(unseal) => Some(unseal.old),
-        Act::Rotate { old, .. } => Some(old),
-        Act::Destroy { old, .. } => Some(old),
+        Act::Derive(derive) => derive.old,
+        Act::Sign(sign) => sign.old,
+        Act::Seal(seal) => seal.old,
+        Act::Unseal(unseal) => unseal.old,
+        Act::Rotate { old, .. } => *old,
+        Act::Destroy { old, .. } => *old,
         Act::Raw(_) => None,
     }
 }
@@ -49,7 +49,7 @@ pub fn fresh_of<'a>(act: &Act<'a>) -> Option<&'a [u8]>
 {
     match act {
         Act::Profile => None,
-        Act::Initialize { fresh } => Some(fresh),
+        Act::Initialize { fresh, .. } => Some(fresh),
         Act::Derive(derive) => Some(derive.fresh),
         Act::Sign(_) => None,
         Act::Seal(_) => None,

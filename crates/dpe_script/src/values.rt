@@ -2,7 +2,7 @@
 ghost use Rattle.std.specs.Prelude.{◌≡◌, ◌≤◌, ◌<◌, ◌++◌, true, IfNone, ℕ, List, IfOk, OnErr, IfSome, length, Some, None, [], replicate};
 ghost use Rattle.dpe_grammar.specs.Values.{texts};
 ghost use Rattle.std.specs.Option.{option_map};
-ghost use Rattle.dpe_grammar.specs.Acts.{act_of};
+ghost use Rattle.dpe_grammar.specs.Acts.{act_of, name_if};
 ghost use Rattle.dpe_script.specs.Names.{HasNames, is_among, is_known};
 ghost use Rattle.dpe_script.specs.Meaning.{no_values, taken, new_handle, kept_handle, made_bytes, after, response};
 ghost use Rattle.dpe_script.specs.CodeValues.{place_of, handle_in, box_in, handles_of, boxes_of, values_of, IsTable, HasShortBoxes, AreShort};
@@ -63,6 +63,16 @@ impl<'a> Values<'a> {
                 None => [0; 16],
                 Some(handle) => *handle,
             },
+        }
+    }
+
+    /// The handle of a name, none where there is no name.
+    pub fn handle_if(&self, name: Option<&[u8]>) -> Option<[u8; 16]>
+        ensures { result ≡ option_map (handles_of self.now) (name_if name.entry) }
+    {
+        match name {
+            None => None,
+            Some(name) => Some(self.handle(name)),
         }
     }
 

@@ -10,20 +10,20 @@ use Rattle.dpe_messages.specs.Replies.{Response, IsRefusal, IsAnswer, IsReplyTo,
 use Rattle.dpe_messages.proofs.CommandsBack.{commands_back}
 use Rattle.dpe_inputs.specs.Cdi.{attest_cdi, seal_cdi}
 use Rattle.dpe_model.specs.State.{Row, State, path}
-use Rattle.dpe_model.specs.Verdict.{named, used, verdict}
+use Rattle.dpe_model.specs.Verdict.{uses_row, used, verdict}
 use Rattle.dpe_model.specs.Step.{Outcome, step, done, answer, masks_of, salt_of}
 use Rattle.dpe_model.proofs.Sizes.{length-signature, length-sealed_box, length-text_of}
 use Rattle.dpe_model.proofs.Accepted.{IsStep, refusing, obeying, each_step, passed}
-use Rattle.dpe_model.proofs.Issues.{answer_sendable, row_named}
+use Rattle.dpe_model.proofs.Issues.{answer_sendable, row_used}
 use Rattle.dpe_tape.specs.Load.{asked_of}
 
 -- what an accepted command is answered
-answer_to : (seed : List ℕ) (S : State) (random : List ℕ) (request : Request) (row : Option Row) → length random ≡ 32 → is_some (named request) ≡ is_some row → InRanges request →
+answer_to : (seed : List ℕ) (S : State) (random : List ℕ) (request : Request) (row : Option Row) → length random ≡ 32 → uses_row request ≡ is_some row → InRanges request →
     replies.IsSendable (answer seed S random request row) → IsAnswer (asked_of request) (answer seed S random request row)
 answer_to seed S random get_profile None h t r s = refl
 answer_to seed S random get_profile (Some row) h t r s = cc
-answer_to seed S random initialize None h t r s = s
-answer_to seed S random initialize (Some row) h t r s = cc
+answer_to seed S random (initialize default) None h t r s = s
+answer_to seed S random (initialize default) (Some row) h t r s = cc
 answer_to seed S random (derive d) None h t r s = cc
 answer_to seed S random (derive d) (Some row) h t r s = s
 answer_to seed S random (sign q) None h t r s = cc
@@ -36,8 +36,8 @@ answer_to seed S random (seal q) (Some row) h t r s =
     (s.0, omega (arith, long), s.1)
 answer_to seed S random (unseal q) None h t r s = cc
 answer_to seed S random (unseal q) (Some row) h t r s = (s.0, omega arith, length-text_of (seal_cdi seed (path row)) q.label q.sealed)
-answer_to seed S random (rotate old) None h t r s = cc
-answer_to seed S random (rotate old) (Some row) h t r s = s
+answer_to seed S random (rotate old default) None h t r s = cc
+answer_to seed S random (rotate old default) (Some row) h t r s = s
 answer_to seed S random (destroy old all) None h t r s = cc
 answer_to seed S random (destroy old all) (Some row) h t r s = refl
 
@@ -48,7 +48,7 @@ obeyed_to : (seed : List ℕ) (S : State) (locality : ℕ) (random : List ℕ) (
     → MayRead request (done seed S locality random request (used S locality request)).reply
 obeyed_to seed S locality random request long range accepts =
     let test = passed seed S locality request (used S locality request) accepts in
-    let row = row_named S locality request test.found in
+    let row = row_used seed S locality request test in
     let send = answer_sendable seed S random request (used S locality request) long row range in
     inr (answer_to seed S random request (used S locality request) long row range send)
 

@@ -34,7 +34,7 @@ one_other : (code : ℕ) (r : Response) → code ≢ code_of r → one_if code r
 one_other code r other = grind (arith, nat_tests)
 
 -- the count of the reply's code is one more, and the others stay
-pub counts_more : (counts : List ℕ) (rs : List Response) (r : Response) (at v : ℕ) → length counts ≡ 28 → at < 28 → at ≡ code_of r
+pub counts_more : (counts : List ℕ) (rs : List Response) (r : Response) (at v : ℕ) → length counts ≡ 30 → at < 30 → at ≡ code_of r
     → v ≡ get_or counts at 0 + 1 → HasCounts counts rs → HasCounts (set counts at v) (rs ++ r ∷ [])
 counts_more counts rs r at v long below is more has code lt = elim (ℕ_discrete code at) [
   | yes e ↦
@@ -51,7 +51,7 @@ counts_more counts rs r at v long below is more has code lt = elim (ℕ_discrete
 ]
 
 -- fewer replies than a count can tell
-pub counted : (counts : List ℕ) (rs : List Response) (at : ℕ) → at < 28 → length rs < 65536 → HasCounts counts rs → get_or counts at 0 < 65536
+pub counted : (counts : List ℕ) (rs : List Response) (at : ℕ) → at < 30 → length rs < 65536 → HasCounts counts rs → get_or counts at 0 < 65536
 counted counts rs at below few has =
     let is : get_or counts at 0 ≡ count_of at rs = has at below in
     omega (arith, count_few at rs)
@@ -81,7 +81,7 @@ lines_more text before after code count rs one two three =
     ∙ ap (λ (n : ℕ). text ++ (code_lines code rs ++ code_line code n)) three
     ∙ ap (λ (n : ℕ). text ++ code_lines n rs) next
 
-pub all_lines : (text after : List ℕ) (code : ℕ) (rs : List Response) → code ≡ 28 → after ≡ text ++ code_lines code rs → after ≡ text ++ code_lines code_bound rs
+pub all_lines : (text after : List ℕ) (code : ℕ) (rs : List Response) → code ≡ 30 → after ≡ text ++ code_lines code rs → after ≡ text ++ code_lines code_bound rs
 all_lines text after code rs all is = is ∙ ap (λ (n : ℕ). text ++ code_lines n rs) all
 
 -- the three parts of the text

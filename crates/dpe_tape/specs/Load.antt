@@ -40,7 +40,7 @@ target b = b / 8 % 8
 
 abbrev pub derivation : List ℕ → ℕ → Bool → DeriveRequest
 derivation named b retain = record {
-  handle = named;
+  handle = Some named;
   code = filled b 0;
   config = inline (filled b 1);
   authority = filled b 2;
@@ -49,6 +49,7 @@ derivation named b retain = record {
   retain = retain;
   may_derive = true;
   locality = Some (target b);
+  child_default = false;
 }
 
 -- what is signed and sealed
@@ -57,37 +58,37 @@ message b = repeated 8 b
 
 -- the other commands on a handle, each with the empty label and retaining the context
 abbrev pub signing : List ℕ → List ℕ → SignRequest
-signing named text = record { handle = named; label = []; retain = true; message = text }
+signing named text = record { handle = Some named; label = []; retain = true; message = text }
 
 -- for each locality and mode
 abbrev pub sealing : List ℕ → List ℕ → SealRequest
-sealing named text = record { handle = named; label = []; retain = true; localities = 255; modes = 15; plain = text }
+sealing named text = record { handle = Some named; label = []; retain = true; localities = 255; modes = 15; plain = text }
 
 abbrev pub unsealing : List ℕ → List ℕ → UnsealRequest
-unsealing named sealed = record { handle = named; label = []; retain = true; sealed = sealed }
+unsealing named sealed = record { handle = Some named; label = []; retain = true; sealed = sealed }
 
 -- the command on a handle with the argument b; the last box and the last spent handle are those of earlier replies
 abbrev pub request_for : Act → List ℕ → ℕ → List ℕ → List ℕ → Request
-request_for Initialize named b last_box spent = initialize
+request_for Initialize named b last_box spent = initialize false
 request_for Derive named b last_box spent = derive (derivation named b true)
 request_for DeriveAway named b last_box spent = derive (derivation named b false)
-request_for Rotate named b last_box spent = rotate named
+request_for Rotate named b last_box spent = rotate (Some named) false
 request_for Sign named b last_box spent = sign (signing named (message b))
 request_for Seal named b last_box spent = seal (sealing named (message b))
 request_for Unseal named b last_box spent = unseal (unsealing named last_box)
-request_for Destroy named b last_box spent = destroy named false
-request_for RotateSpent named b last_box spent = rotate spent
+request_for Destroy named b last_box spent = destroy (Some named) false
+request_for RotateSpent named b last_box spent = rotate (Some spent) false
 request_for Profile named b last_box spent = get_profile
 
 -- what a request's sender asks for
 abbrev pub asked_of : Request → Asked
 asked_of get_profile = asked.GetProfile
-asked_of initialize = asked.Initialize
+asked_of (initialize default) = asked.Initialize
 asked_of (derive d) = asked.Derive
 asked_of (sign s) = asked.Sign
 asked_of (seal s) = asked.Seal
 asked_of (unseal u) = asked.Unseal
-asked_of (rotate named) = asked.Rotate
+asked_of (rotate named default) = asked.Rotate
 asked_of (destroy named recursive) = asked.Destroy
 
 abbrev pub asked_by : Act → Asked

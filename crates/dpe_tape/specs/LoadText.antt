@@ -10,7 +10,7 @@ use Rattle.dpe_tape.specs.Load.{load_at, replies}
 
 -- every code of a reply is below this number
 abbrev pub code_bound : ℕ
-code_bound = 28
+code_bound = 30
 
 abbrev pub line : List ℕ → List ℕ
 line text = text ++ 10 ∷ []

@@ -1,7 +1,7 @@
 //! What a command of a load does.
-ghost use Rattle.std.specs.Prelude.{◌≡◌, ◌≤◌, false, length, take};
+ghost use Rattle.std.specs.Prelude.{◌≡◌, ◌≤◌, false, Some, length, take};
 ghost use Rattle.dpe_messages.specs.CommandRows.{command_payload};
-ghost use Rattle.dpe_messages.specs.Request.{derive, sign, seal, unseal, destroy};
+ghost use Rattle.dpe_messages.specs.Request.{derive, sign, seal, unseal, rotate, destroy};
 ghost use Rattle.dpe_tape.specs.Load.{act_of, request_for, asked_by, locality_for, locality_of_new, names_picked, makes_box, derivation, signing, sealing, unsealing, filled};
 
 use crate::draws::eight_times;
@@ -154,7 +154,7 @@ fn write_derive<'a>(
     ensures written { take result room.new ≡ command_payload (derive (derivation handle.now argument retain)) }
 {
     let derive = Derive {
-        handle,
+        handle: Some(handle),
         code: &inputs.code,
         config: Config::Inline(&inputs.config),
         authority: &inputs.authority,
@@ -163,6 +163,7 @@ fn write_derive<'a>(
         retain,
         may_derive: true,
         locality: Some((argument / 8 % 8) as u8),
+        child_default: false,
     };
     write_command(&Command::Derive(derive), room)
 }
@@ -186,7 +187,7 @@ fn write_sign<'a>(handle: &'a [u8; 16], message: &'a [u8; 32], room: &mut [u8; 4
     ensures written { take result room.new ≡ command_payload (sign (signing handle.now message.now)) }
 {
     let sign = Sign {
-        handle,
+        handle: Some(handle),
         label: &[],
         retain: true,
         message,
@@ -200,7 +201,7 @@ fn write_seal<'a>(handle: &'a [u8; 16], plain: &'a [u8; 32], room: &mut [u8; 409
     ensures written { take result room.new ≡ command_payload (seal (sealing handle.now plain.now)) }
 {
     let seal = Seal {
-        handle,
+        handle: Some(handle),
         label: &[],
         retain: true,
         localities: 255,
@@ -217,7 +218,7 @@ fn write_unseal<'a>(handle: &'a [u8; 16], sealed: &'a [u8], room: &mut [u8; 4096
     ensures written { take result room.new ≡ command_payload (unseal (unsealing handle.now sealed.now)) }
 {
     let unseal = Unseal {
-        handle,
+        handle: Some(handle),
         label: &[],
         retain: true,
         sealed,
@@ -225,12 +226,23 @@ fn write_unseal<'a>(handle: &'a [u8; 16], sealed: &'a [u8], room: &mut [u8; 4096
     write_command(&Command::Unseal(unseal), room)
 }
 
+fn write_rotate(handle: &[u8; 16], room: &mut [u8; 4096]) -> usize
+    ensures within { result ≤ 4096 }
+    ensures written { take result room.new ≡ command_payload (rotate (Some handle.now) false) }
+{
+    let rotate = Command::Rotate {
+        handle: Some(handle),
+        default: false,
+    };
+    write_command(&rotate, room)
+}
+
 fn write_destroy(handle: &[u8; 16], room: &mut [u8; 4096]) -> usize
     ensures within { result ≤ 4096 }
-    ensures written { take result room.new ≡ command_payload (destroy handle.now false) }
+    ensures written { take result room.new ≡ command_payload (destroy (Some handle.now) false) }
 {
     let destroy = Command::Destroy {
-        handle,
+        handle: Some(handle),
         recursive: false,
     };
     write_command(&destroy, room)
@@ -251,15 +263,15 @@ pub fn write_act(
         ≡ command_payload (request_for act handle.now argument last_box.now spent.now) }
 {
     match act {
-        Act::Initialize => write_command(&Command::Initialize, room),
+        Act::Initialize => write_command(&Command::Initialize { default: false }, room),
         Act::Derive => write_derivation(handle, argument, true, room),
         Act::DeriveAway => write_derivation(handle, argument, false, room),
-        Act::Rotate => write_command(&Command::Rotate(handle), room),
+        Act::Rotate => write_rotate(handle, room),
         Act::Sign => write_sign(handle, &eight_times(argument), room),
         Act::Seal => write_seal(handle, &eight_times(argument), room),
         Act::Unseal => write_unseal(handle, last_box, room),
         Act::Destroy => write_destroy(handle, room),
-        Act::RotateSpent => write_command(&Command::Rotate(spent), room),
+        Act::RotateSpent => write_rotate(spent, room),
         Act::Profile => write_command(&Command::GetProfile, room),
     }
 }

@@ -10,7 +10,8 @@ pub fn state_stays_valid()
         → Valid (after (machine_at seed first) items).state }
 {}
 
-/// Bytes are not two of these: a tape, a malformed tape, an overlong one. So the status of a run without a fault is known.
+/// Bytes are one of these and not two: a tape, a malformed tape, an overlong one. So the status of a run without a fault
+/// is known.
 pub fn one_kind()
     ensures { (bytes : List ℕ) → IsOfOneKind bytes }
 {}

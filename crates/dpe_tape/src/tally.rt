@@ -12,7 +12,7 @@ use sha2::{Digest, Sha512};
 use std::alloc::{AllocError, Global};
 
 /// Every code of a reply is below this number.
-const CODE_BOUND: usize = 28;
+const CODE_BOUND: usize = 30;
 
 /// The code of a reply.
 pub fn code(reply: &Reply<'_>) -> u8

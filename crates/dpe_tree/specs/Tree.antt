@@ -1,5 +1,5 @@
 -- What the arena stands for: its places, and the contexts that they hold.
-use Rattle.std.specs.Prelude.{ℕ, Bool, if◌then◌else◌, ◌<◌, ◌≤◌, ◌≡◌, ◌↔◌, List, [], ◌∷◌, ◌++◌, Option, Some, None, IsSome, is_some, length, count_by, replicate, slice_index_or, slice_set}
+use Rattle.std.specs.Prelude.{ℕ, Bool, if◌then◌else◌, ◌<◌, ◌≤◌, ◌≡◌, ◌↔◌, ◌+◌, ◌*◌, List, [], ◌∷◌, ◌++◌, Option, Some, None, IsSome, is_some, length, count_by, replicate, slice_index_or, slice_set}
 use Rattle.dpe_inputs.specs.declared.Input.{Input}
 use Rattle.dpe_inputs.specs.declared.Cdis.{Cdis}
 
@@ -17,15 +17,16 @@ pub record Node : Type 0 where
 abbrev pub Places : Type 0
 Places = List (Option Node)
 
--- the most places, the greatest depth of a context, and the most live contexts
-abbrev pub place_limit : ℕ
-place_limit = 4097
-
+-- the greatest depth of a context, the most live contexts, and the most places: these contexts at that depth with all
+-- places above them, and the root
 abbrev pub depth_limit : ℕ
-depth_limit = 16
+depth_limit = 32
 
 abbrev pub context_limit : ℕ
-context_limit = 256
+context_limit = 1024
+
+abbrev pub place_limit : ℕ
+place_limit = context_limit * depth_limit + 1
 
 -- ## One place
 

@@ -11,10 +11,11 @@ use std::alloc::{AllocError, Global};
 use std::marker::Model;
 
 /// The most steps from the root to a context.
-pub const MOST_DEPTH: u8 = 16;
+pub const MOST_DEPTH: u8 = 32;
 /// The most live contexts.
-pub const MOST_LIVE: u32 = 256;
-/// How many places there are: 256 contexts 16 steps below the root, and the root. That is as many as can ever be used.
+pub const MOST_LIVE: u32 = 1_024;
+/// How many places there are: 32,769, for 1,024 contexts 32 steps below the root and the root. That is as many as can
+/// ever be used.
 pub const MOST_PLACES: u32 = MOST_LIVE * MOST_DEPTH as u32 + 1;
 
 /// The number of a place, below `MOST_PLACES`.

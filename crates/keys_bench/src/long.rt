@@ -24,7 +24,7 @@ pub fn read(count: u32) -> [u8; 8] {
     let mut payload = [0; 4096];
     let len = write_command(
         &Command::Seal(Seal {
-            handle: &HANDLE,
+            handle: Some(&HANDLE),
             label: b"",
             retain: true,
             localities: 255,

@@ -30,15 +30,16 @@ fn told_handle(both: &Both, at: u32) -> [u8; 16] {
     }
 }
 
-// A handle: `oldest`, `middle` and `newest` by the order of serials, or a serial, and behind `+` its last 8 bytes, which
-// else are zeros.
-fn handle(alloc: Global, both: &Both, text: &str) -> Result<[u8; 16], RowFault> {
+// A handle: none for `-`, `oldest`, `middle` and `newest` by the order of serials, or a serial, and behind `+` its last 8
+// bytes, which else are zeros.
+fn handle(alloc: Global, both: &Both, text: &str) -> Result<Option<[u8; 16]>, RowFault> {
     let (live, _) = both.counts();
     match text {
-        "oldest" => Ok(told_handle(both, 0)),
-        "middle" => Ok(told_handle(both, live / 2)),
-        "newest" => Ok(told_handle(both, live.saturating_sub(1))),
-        _ => written_handle(alloc, both.names(), text),
+        "-" => Ok(None),
+        "oldest" => Ok(Some(told_handle(both, 0))),
+        "middle" => Ok(Some(told_handle(both, live / 2))),
+        "newest" => Ok(Some(told_handle(both, live.saturating_sub(1)))),
+        _ => Ok(Some(written_handle(alloc, both.names(), text)?)),
     }
 }
 
@@ -154,7 +155,7 @@ fn hidden_of<'a>(words: &[Word<'_>], hidden: &'a [u8; 64]) -> Option<&'a [u8; 64
 // What a layer has of just so many bytes.
 #[derive(Clone, Copy)]
 struct Inputs {
-    handle: [u8; 16],
+    handle: Option<[u8; 16]>,
     code: [u8; 64],
     config: [u8; 64],
     authority: [u8; 64],
@@ -162,13 +163,13 @@ struct Inputs {
 }
 
 // Where nothing else is said: the code 11, the configuration 21 and the authority 31, each 64 times.
-fn inputs_of(handle: &[u8; 16], words: &[Word<'_>]) -> Result<Inputs, RowFault> {
+fn inputs_of(handle: Option<[u8; 16]>, words: &[Word<'_>]) -> Result<Inputs, RowFault> {
     let code = input_of(words, "code", 0x11)?;
     let config = input_of(words, "config", 0x21)?;
     let authority = input_of(words, "authority", 0x31)?;
     let hidden = input_of(words, "hidden", 0)?;
     Ok(Inputs {
-        handle: *handle,
+        handle,
         code,
         config,
         authority,
@@ -176,7 +177,7 @@ fn inputs_of(handle: &[u8; 16], words: &[Word<'_>]) -> Result<Inputs, RowFault> 
     })
 }
 
-const DERIVE_KEYS: [&str; 9] = [
+const DERIVE_KEYS: [&str; 10] = [
     "code",
     "config",
     "descriptor",
@@ -186,17 +187,18 @@ const DERIVE_KEYS: [&str; 9] = [
     "retain",
     "final",
     "to",
+    "default",
 ];
 
 // The mode is 1 where nothing else is said.
-fn derive(handle: &[u8; 16], words: &[Word<'_>], room: &mut [u8; 4096]) -> Written {
+fn derive(handle: Option<[u8; 16]>, words: &[Word<'_>], room: &mut [u8; 4096]) -> Written {
     expect(words, &DERIVE_KEYS)?;
     let inputs = inputs_of(handle, words)?;
     let descriptor = bytes_of(words, "descriptor", MOST_DESCRIPTOR)?;
     let mode = number_of(words, "mode", 3, 1)?;
     let locality = target_of(words)?;
     let derive = Derive {
-        handle: &inputs.handle,
+        handle: inputs.handle.as_ref(),
         code: &inputs.code,
         config: config_of(words, &inputs.config, descriptor),
         authority: &inputs.authority,
@@ -205,11 +207,12 @@ fn derive(handle: &[u8; 16], words: &[Word<'_>], room: &mut [u8; 4096]) -> Writt
         retain: flag(words, "retain"),
         may_derive: !flag(words, "final"),
         locality,
+        child_default: flag(words, "default"),
     };
     Ok(write_command(&Command::Derive(derive), room))
 }
 
-fn sign(handle: &[u8; 16], words: &[Word<'_>], room: &mut [u8; 4096]) -> Written {
+fn sign<'a>(handle: Option<&'a [u8; 16]>, words: &'a [Word<'_>], room: &mut [u8; 4096]) -> Written {
     expect(words, &["label", "message", "retain"])?;
     let label = bytes_of(words, "label", MOST_LABEL)?;
     let message = bytes_of(words, "message", MOST_TEXT)?;
@@ -222,7 +225,7 @@ fn sign(handle: &[u8; 16], words: &[Word<'_>], room: &mut [u8; 4096]) -> Written
     Ok(write_command(&Command::Sign(sign), room))
 }
 
-fn seal(handle: &[u8; 16], words: &[Word<'_>], room: &mut [u8; 4096]) -> Written {
+fn seal<'a>(handle: Option<&'a [u8; 16]>, words: &'a [Word<'_>], room: &mut [u8; 4096]) -> Written {
     expect(words, &["label", "text", "localities", "modes", "retain"])?;
     let label = bytes_of(words, "label", MOST_LABEL)?;
     let plain = bytes_of(words, "text", MOST_TEXT)?;
@@ -239,7 +242,11 @@ fn seal(handle: &[u8; 16], words: &[Word<'_>], room: &mut [u8; 4096]) -> Written
     Ok(write_command(&Command::Seal(seal), room))
 }
 
-fn unseal(handle: &[u8; 16], words: &[Word<'_>], room: &mut [u8; 4096]) -> Written {
+fn unseal<'a>(
+    handle: Option<&'a [u8; 16]>,
+    words: &'a [Word<'_>],
+    room: &mut [u8; 4096],
+) -> Written {
     expect(words, &["label", "box", "retain"])?;
     let label = bytes_of(words, "label", MOST_LABEL)?;
     let sealed = bytes_of(words, "box", MOST_BOX)?;
@@ -252,12 +259,13 @@ fn unseal(handle: &[u8; 16], words: &[Word<'_>], room: &mut [u8; 4096]) -> Writt
     Ok(write_command(&Command::Unseal(unseal), room))
 }
 
-fn rotate(handle: &[u8; 16], words: &[Word<'_>], room: &mut [u8; 4096]) -> Written {
-    expect(words, &[])?;
-    Ok(write_command(&Command::Rotate(handle), room))
+fn rotate(handle: Option<&[u8; 16]>, words: &[Word<'_>], room: &mut [u8; 4096]) -> Written {
+    expect(words, &["default"])?;
+    let default = flag(words, "default");
+    Ok(write_command(&Command::Rotate { handle, default }, room))
 }
 
-fn destroy(handle: &[u8; 16], words: &[Word<'_>], room: &mut [u8; 4096]) -> Written {
+fn destroy(handle: Option<&[u8; 16]>, words: &[Word<'_>], room: &mut [u8; 4096]) -> Written {
     expect(words, &["family"])?;
     let recursive = flag(words, "family");
     Ok(write_command(&Command::Destroy { handle, recursive }, room))
@@ -266,17 +274,17 @@ fn destroy(handle: &[u8; 16], words: &[Word<'_>], room: &mut [u8; 4096]) -> Writ
 // The payload of a command that uses a context.
 fn with_context(
     name: &str,
-    handle: &[u8; 16],
+    handle: Option<[u8; 16]>,
     words: &[Word<'_>],
     room: &mut [u8; 4096],
 ) -> Written {
     match name {
         "derive" => derive(handle, words, room),
-        "sign" => sign(handle, words, room),
-        "seal" => seal(handle, words, room),
-        "unseal" => unseal(handle, words, room),
-        "rotate" => rotate(handle, words, room),
-        "destroy" => destroy(handle, words, room),
+        "sign" => sign(handle.as_ref(), words, room),
+        "seal" => seal(handle.as_ref(), words, room),
+        "unseal" => unseal(handle.as_ref(), words, room),
+        "rotate" => rotate(handle.as_ref(), words, room),
+        "destroy" => destroy(handle.as_ref(), words, room),
         _ => Err(RowFault::Unreadable),
     }
 }
@@ -292,7 +300,13 @@ fn use_context(
         return Err(RowFault::Unreadable);
     };
     let context = handle(alloc, both, context.whole)?;
-    with_context(name, &context, words, room)
+    with_context(name, context, words, room)
+}
+
+fn initialize(words: &[Word<'_>], room: &mut [u8; 4096]) -> Written {
+    expect(words, &["default"])?;
+    let default = flag(words, "default");
+    Ok(write_command(&Command::Initialize { default }, room))
 }
 
 // A payload as it is.
@@ -312,7 +326,7 @@ fn payload_of(alloc: Global, both: &Both, words: &[Word<'_>], room: &mut [u8; 40
     };
     match name.whole {
         "profile" => Ok(write_command(&Command::GetProfile, room)),
-        "initialize" => Ok(write_command(&Command::Initialize, room)),
+        "initialize" => initialize(words, room),
         "payload" => payload(words, room),
         name => use_context(alloc, both, name, words, room),
     }

@@ -64,7 +64,7 @@ fn leads_to(tree: &Tree, below: Place, place: Place) -> bool
     ensures { IsTrue result → IsUsed tree.now place.0 }
 {
     let mut at = below;
-    for _step in 0..17u8 {
+    for _step in 0..=MOST_DEPTH {
         if at == place {
             return true;
         }

@@ -1,6 +1,6 @@
 //! Rows that call the table of handles.
-ghost use Rattle.std.specs.Prelude.{◌≡◌, ◌<◌, IsTrue, All, IfOk, length};
-ghost use Rattle.dpe_handles.specs.Rows.{serial};
+ghost use Rattle.std.specs.Prelude.{◌≡◌, ◌<◌, IsTrue, All, IfOk, length, true, false};
+ghost use Rattle.dpe_handles.specs.Rows.{serial, HasNoDefault};
 
 use crate::fault::Fault;
 use crate::numbers::{number, small};
@@ -30,9 +30,16 @@ fn is_last(table: &Table, row: &Row) -> bool
     true
 }
 
-// Appends a row where the table has room for it and its serial is the greatest.
+// Whether the row is marked, and its locality has a default.
+fn is_taken(table: &Table, row: &Row) -> bool
+    ensures { result ≡ false → row.now.default ≡ true → HasNoDefault table.now row.now.locality }
+{
+    row.default && table.default_at(row.locality).is_some()
+}
+
+// Appends a row where the table has room for it, its serial is the greatest, and it is no second default.
 fn issue(table: &mut Table, row: Row) -> Result<(), Fault> {
-    if table.len() >= MOST_ROWS || !is_last(table, &row) {
+    if table.len() >= MOST_ROWS || !is_last(table, &row) || is_taken(table, &row) {
         return Err(Fault::Unmet);
     }
     table.issue(row);
@@ -47,20 +54,22 @@ fn handle_of(serial: u64, last: u8) -> [u8; 16] {
 }
 
 // A row whose locality and place follow from its serial.
-fn row_of(serial: u64, last: u8) -> Row {
+fn row_of(serial: u64, last: u8, default: bool) -> Row {
     Row {
         handle: handle_of(serial, last),
         locality: (serial % 8) as u8,
         may_derive: serial % 2 == 1,
         place: (serial % 4096) as u32,
+        default,
     }
 }
 
 fn told(alloc: Global, row: &Row) -> Result<String, AllocError> {
     let handle = printed(alloc, &row.handle)?;
     let derives = if row.may_derive { "derives" } else { "final" };
+    let default = if row.default { ", default" } else { "" };
     format!(in alloc;
-        "{handle} at locality {}, place {}, {derives}",
+        "{handle} at locality {}, place {}, {derives}{default}",
         row.locality, row.place
     )
 }
@@ -73,7 +82,7 @@ fn fill(table: &mut Table, words: &[&str]) -> Result<(), Fault> {
     let mut serial = number(first)?;
     let step = number(step)?;
     for _ in 0..number(count)? {
-        issue(table, row_of(serial, 9))?;
+        issue(table, row_of(serial, 9, false))?;
         serial = serial.saturating_add(step);
     }
     Ok(())
@@ -142,9 +151,26 @@ fn named(words: &[&str]) -> Result<(u64, u8), Fault> {
     Ok((number(serial)?, small(last)?))
 }
 
+// A row of a serial and the byte behind it, and with `default` behind these a marked one.
 fn issue_row(table: &mut Table, words: &[&str]) -> Result<(), Fault> {
-    let (serial, last) = named(words)?;
-    issue(table, row_of(serial, last))
+    let (words, default) = match words {
+        [serial, last, "default"] => ([*serial, *last], true),
+        [serial, last] => ([*serial, *last], false),
+        _ => return Err(Fault::Unreadable),
+    };
+    let (serial, last) = named(&words)?;
+    issue(table, row_of(serial, last, default))
+}
+
+// The place of the default of a locality.
+fn default(alloc: Global, table: &Table, words: &[&str]) -> Result<String, Fault> {
+    let [locality] = words else {
+        return Err(Fault::Unreadable);
+    };
+    match table.default_at(small(locality)?) {
+        Some(at) => Ok(format!(in alloc; "at {at}")?),
+        None => Ok(String::from_str(alloc, "none")?),
+    }
 }
 
 fn spend(alloc: Global, table: &mut Table, words: &[&str]) -> Result<String, Fault> {
@@ -167,6 +193,7 @@ pub(crate) fn answer(alloc: Global, table: &mut Table, words: &[&str]) -> Result
         "row" => row(alloc, table, words),
         "find" => find(alloc, table, words),
         "search" => search(alloc, table, words),
+        "default" => default(alloc, table, words),
         call => {
             change(alloc, table, call, words)?;
             length(alloc, table)

@@ -7,6 +7,7 @@
 mod asked;
 mod both;
 mod boxes;
+mod drawn;
 mod fault;
 mod grown;
 mod handles;

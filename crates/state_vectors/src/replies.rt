@@ -23,6 +23,8 @@ fn name(code: u64) -> &'static str {
         24 => "policy refused",
         25 => "serials spent",
         27 => "root locality",
+        28 => "no default",
+        29 => "default taken",
         _ => "NO SUCH CODE",
     }
 }

@@ -1,6 +1,7 @@
 //! The rows of a table.
 use crate::asked::ask;
 use crate::both::Both;
+use crate::drawn::draw_all;
 use crate::fault::Fault;
 use crate::grown::Grown;
 use crate::handles;
@@ -152,6 +153,7 @@ impl Trial {
             "tree" => self.tree_row(alloc, others),
             "table" => handles::answer(alloc, &mut self.table, others),
             "repeat" => repeated(alloc, &mut self.both, others),
+            "draw" => draw_all(alloc, &mut self.both, others),
             _ => self.command(alloc, words),
         }
     }

@@ -3,6 +3,7 @@ ghost use Rattle.std.specs.Prelude.{◌≤◌, length, IfOk, IfSome};
 ghost use Rattle.dpe_messages.specs.CommandRows.{IsCommandWritable, IsShort};
 
 use crate::fields::{Value, tell_fields};
+use dpe_box::Policy;
 use dpe_messages::{
     Command, Config, Derive, Refusal, Seal, Sign, Unseal, read_payload, write_command,
 };
@@ -21,17 +22,38 @@ pub(crate) fn read(payload: &Word<'_>, told: &mut String) -> Told {
 fn describe(command: &Command<'_>, told: &mut String) -> Told {
     match command {
         Command::GetProfile => put(told, "GetProfile"),
-        Command::Initialize => put(told, "InitializeContext"),
+        Command::Initialize { default } => flag(told, "InitializeContext default ", *default),
         Command::Derive(derive) => describe_derive(derive, told),
         Command::Sign(sign) => describe_sign(sign, told),
         Command::Seal(seal) => describe_seal(seal, told),
         Command::Unseal(unseal) => describe_unseal(unseal, told),
-        Command::Rotate(handle) => field(told, "RotateContextHandle ", *handle),
+        Command::Rotate { handle, default } => {
+            describe_use("RotateContextHandle ", *handle, " default ", *default, told)
+        }
         Command::Destroy { handle, recursive } => {
-            field(told, "DestroyContext ", *handle)?;
-            flag(told, " recursive ", *recursive)
+            describe_use("DestroyContext ", *handle, " recursive ", *recursive, told)
         }
     }
+}
+
+// The handle that a command names, or `none`.
+fn handle_value(handle: Option<&[u8; 16]>) -> Value<'_> {
+    match handle {
+        Some(handle) => Value::Bytes(handle),
+        None => Value::Missing,
+    }
+}
+
+// A command of a handle and a flag.
+fn describe_use(
+    name: &str,
+    handle: Option<&[u8; 16]>,
+    choice: &str,
+    holds: bool,
+    told: &mut String,
+) -> Told {
+    let fields = [(name, handle_value(handle)), (choice, Value::Flag(holds))];
+    tell_fields(&fields, told)
 }
 
 fn describe_derive(derive: &Derive<'_>, told: &mut String) -> Told {
@@ -45,9 +67,10 @@ fn describe_derive(derive: &Derive<'_>, told: &mut String) -> Told {
         retain,
         may_derive,
         locality,
+        child_default,
     } = *derive;
     let fields = [
-        ("DeriveContext ", Value::Bytes(handle)),
+        ("DeriveContext ", handle_value(handle)),
         (" code ", Value::Bytes(code)),
         config_field(&config),
         (" authority ", Value::Bytes(authority)),
@@ -56,6 +79,7 @@ fn describe_derive(derive: &Derive<'_>, told: &mut String) -> Told {
         (" retain ", Value::Flag(retain)),
         (" may-derive ", Value::Flag(may_derive)),
         (" locality ", locality_value(locality)),
+        (" child-default ", Value::Flag(child_default)),
     ];
     tell_fields(&fields, told)
 }
@@ -89,7 +113,7 @@ fn describe_sign(sign: &Sign<'_>, told: &mut String) -> Told {
         message,
     } = *sign;
     let fields = [
-        ("Sign ", Value::Bytes(handle)),
+        ("Sign ", handle_value(handle)),
         (" label ", Value::Bytes(label)),
         (" retain ", Value::Flag(retain)),
         (" message ", Value::Bytes(message)),
@@ -107,7 +131,7 @@ fn describe_seal(seal: &Seal<'_>, told: &mut String) -> Told {
         plain,
     } = *seal;
     let fields = [
-        ("Seal ", Value::Bytes(handle)),
+        ("Seal ", handle_value(handle)),
         (" label ", Value::Bytes(label)),
         (" retain ", Value::Flag(retain)),
         (" localities ", Value::Number(u64::from(localities))),
@@ -125,7 +149,7 @@ fn describe_unseal(unseal: &Unseal<'_>, told: &mut String) -> Told {
         sealed,
     } = *unseal;
     let fields = [
-        ("Unseal ", Value::Bytes(handle)),
+        ("Unseal ", handle_value(handle)),
         (" label ", Value::Bytes(label)),
         (" retain ", Value::Flag(retain)),
         (" box ", Value::Bytes(sealed)),
@@ -137,7 +161,7 @@ fn describe_unseal(unseal: &Unseal<'_>, told: &mut String) -> Told {
 pub(crate) fn write(name: &str, words: &[Word<'_>], told: &mut String) -> Told {
     match name {
         "GetProfile" => written(&Command::GetProfile, told),
-        "InitializeContext" => written(&Command::Initialize, told),
+        "InitializeContext" => write_initialize(words, told),
         "RotateContextHandle" => write_rotate(words, told),
         "DestroyContext" => write_destroy(words, told),
         "DeriveContext" => write_derive(words, told),
@@ -148,19 +172,31 @@ pub(crate) fn write(name: &str, words: &[Word<'_>], told: &mut String) -> Told {
     }
 }
 
-fn write_rotate(words: &[Word<'_>], told: &mut String) -> Told {
-    let [handle] = words else {
+fn write_initialize(words: &[Word<'_>], told: &mut String) -> Told {
+    let [default] = words else {
         return Err(RowFault::Unreadable);
     };
-    written(&Command::Rotate(&handle.array()?), told)
+    let default = default.truth()?;
+    written(&Command::Initialize { default }, told)
+}
+
+fn write_rotate(words: &[Word<'_>], told: &mut String) -> Told {
+    let [handle, default] = words else {
+        return Err(RowFault::Unreadable);
+    };
+    let handle = handle.array_or_none()?;
+    let default = default.truth()?;
+    let handle = handle.as_ref();
+    written(&Command::Rotate { handle, default }, told)
 }
 
 fn write_destroy(words: &[Word<'_>], told: &mut String) -> Told {
     let [handle, recursive] = words else {
         return Err(RowFault::Unreadable);
     };
-    let handle = &handle.array()?;
+    let handle = handle.array_or_none()?;
     let recursive = recursive.truth()?;
+    let handle = handle.as_ref();
     written(&Command::Destroy { handle, recursive }, told)
 }
 
@@ -168,12 +204,25 @@ fn write_sign(words: &[Word<'_>], told: &mut String) -> Told {
     let [handle, label, retain, message] = words else {
         return Err(RowFault::Unreadable);
     };
-    let handle = handle.array()?;
+    let handle = handle.array_or_none()?;
     let label = label.at_most(64)?;
     let retain = retain.truth()?;
     let message = message.at_most(2048)?;
+    written_sign(handle.as_ref(), label, retain, message, told)
+}
+
+fn written_sign<'a>(
+    handle: Option<&'a [u8; 16]>,
+    label: &'a [u8],
+    retain: bool,
+    message: &'a [u8],
+    told: &mut String,
+) -> Told
+    requires label { length label.now ≤ 64 }
+    requires message { length message.now ≤ 2048 }
+{
     let sign = Sign {
-        handle: &handle,
+        handle,
         label,
         retain,
         message,
@@ -185,18 +234,35 @@ fn write_seal(words: &[Word<'_>], told: &mut String) -> Told {
     let [handle, label, retain, localities, modes, plain] = words else {
         return Err(RowFault::Unreadable);
     };
-    let handle = handle.array()?;
+    let handle = handle.array_or_none()?;
     let label = label.at_most(64)?;
     let retain = retain.truth()?;
-    let localities = localities.number_to(255)?;
-    let modes = modes.number_to(15)?;
+    let masks = Policy {
+        localities: localities.number_to(255)?,
+        modes: modes.number_to(15)?,
+    };
     let plain = plain.at_most(2048)?;
+    written_seal(handle.as_ref(), label, retain, &masks, plain, told)
+}
+
+fn written_seal<'a>(
+    handle: Option<&'a [u8; 16]>,
+    label: &'a [u8],
+    retain: bool,
+    masks: &Policy,
+    plain: &'a [u8],
+    told: &mut String,
+) -> Told
+    requires label { length label.now ≤ 64 }
+    requires modes { masks.now.modes ≤ 15 }
+    requires plain { length plain.now ≤ 2048 }
+{
     let seal = Seal {
-        handle: &handle,
+        handle,
         label,
         retain,
-        localities,
-        modes,
+        localities: masks.localities,
+        modes: masks.modes,
         plain,
     };
     written(&Command::Seal(seal), told)
@@ -206,12 +272,25 @@ fn write_unseal(words: &[Word<'_>], told: &mut String) -> Told {
     let [handle, label, retain, sealed] = words else {
         return Err(RowFault::Unreadable);
     };
-    let handle = handle.array()?;
+    let handle = handle.array_or_none()?;
     let label = label.at_most(64)?;
     let retain = retain.truth()?;
     let sealed = sealed.at_most(3900)?;
+    written_unseal(handle.as_ref(), label, retain, sealed, told)
+}
+
+fn written_unseal<'a>(
+    handle: Option<&'a [u8; 16]>,
+    label: &'a [u8],
+    retain: bool,
+    sealed: &'a [u8],
+    told: &mut String,
+) -> Told
+    requires label { length label.now ≤ 64 }
+    requires sealed { length sealed.now ≤ 3900 }
+{
     let unseal = Unseal {
-        handle: &handle,
+        handle,
         label,
         retain,
         sealed,
@@ -222,7 +301,7 @@ fn write_unseal(words: &[Word<'_>], told: &mut String) -> Told {
 // What a layer has of just so many bytes.
 #[derive(Clone, Copy)]
 struct Layer {
-    handle: [u8; 16],
+    handle: Option<[u8; 16]>,
     code: [u8; 64],
     inline: [u8; 64],
     authority: [u8; 64],
@@ -233,7 +312,7 @@ fn layer_of(words: &[Word<'_>]) -> Result<Layer, RowFault> {
     let [handle, code, kind, config, authority, _mode, hidden, ..] = words else {
         return Err(RowFault::Unreadable);
     };
-    let handle = handle.array()?;
+    let handle = handle.array_or_none()?;
     let code = code.array()?;
     let inline = inline_of(kind.text, config)?;
     let authority = authority.array()?;
@@ -247,10 +326,23 @@ fn layer_of(words: &[Word<'_>]) -> Result<Layer, RowFault> {
     })
 }
 
-// `HANDLE CODE KIND CONFIG AUTHORITY MODE HIDDEN RETAIN MAY-DERIVE LOCALITY`.
+// `HANDLE CODE KIND CONFIG AUTHORITY MODE HIDDEN RETAIN MAY-DERIVE LOCALITY CHILD-DEFAULT`.
 fn write_derive(words: &[Word<'_>], told: &mut String) -> Told {
     let layer = layer_of(words)?;
-    let [_, _, kind, config, _, mode, _, retain, may_derive, locality] = words else {
+    let [
+        _,
+        _,
+        kind,
+        config,
+        _,
+        mode,
+        _,
+        retain,
+        may_derive,
+        locality,
+        child_default,
+    ] = words
+    else {
         return Err(RowFault::Unreadable);
     };
     let descriptor = config.at_most(1024)?;
@@ -258,8 +350,9 @@ fn write_derive(words: &[Word<'_>], told: &mut String) -> Told {
     let retain = retain.truth()?;
     let may_derive = may_derive.truth()?;
     let locality = locality_or_none(locality)?;
+    let child_default = child_default.truth()?;
     let derive = Derive {
-        handle: &layer.handle,
+        handle: layer.handle.as_ref(),
         code: &layer.code,
         config: config_of(kind.text, &layer.inline, descriptor),
         authority: &layer.authority,
@@ -268,6 +361,7 @@ fn write_derive(words: &[Word<'_>], told: &mut String) -> Told {
         retain,
         may_derive,
         locality,
+        child_default,
     };
     written(&Command::Derive(derive), told)
 }

@@ -99,7 +99,7 @@ fn write_refused(words: &[Word<'_>], told: &mut String) -> Told {
         return Err(RowFault::Unreadable);
     };
     let code = code.number::<u8>()?;
-    if !matches!(code, 2 | 3 | 5 | 16..=27) {
+    if !matches!(code, 2 | 3 | 5 | 16..=29) {
         return Err(RowFault::Unreadable);
     }
     written(&Reply::Refused(code), told)

@@ -1,4 +1,6 @@
 use Rattle.std.proofs.Common.{rules, ◌≡◌, ◌++◌, ◌∷◌, [], sym, ap, ◌∙◌, arith}
+use Rattle.std.specs.List.{range_with_len}
+use Rattle.dpe_handles.specs.Rows.{row_limit}
 use Rattle.dpe_handles.proofs.Slots.{numbers_more}
 use Rattle.dpe_handles.proofs.table.all_slots.Goals as goal
 
@@ -12,3 +14,8 @@ loop-slot-preserved c =
     let before = i.room in
     let capacity_is = c.in_ok-push.ensures.capacity in
     record { all = e ∙ ap (λ ns. ns ++ c.loop-slot.slot ∷ []) i.all ∙ sym (numbers_more c.loop-slot.slot); room = omega arith }
+
+pub returns-clause-all : goal.returns-clause-all
+returns-clause-all c =
+    let done : c.loop-slot.slot ≡ row_limit = omega arith in
+    c.loop-slot.invariant.all ∙ ap (range_with_len 0) done

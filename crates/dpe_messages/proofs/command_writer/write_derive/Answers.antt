@@ -9,7 +9,7 @@ pub write_message-requires : goal.write_message-requires
 write_message-requires c =
     let d = derive_request c.args.derive.now in
     table_fits 8 _ (derive d) refl (
-    derive_table d _ _ _ _ _ _ _ _ _ _
+    derive_table d _ _ _ _ _ _ _ _ _ _ _
     c.handle_value-handle.ensures.value
     c.input_value-code.ensures.value
     c.inline-inline.ensures.value
@@ -20,6 +20,7 @@ write_message-requires c =
     c.truth_if_true-retain.ensures
     c.truth_unless_true-may_derive.ensures
     c.locality_number-locality.ensures
+    c.truth_if_true-child_default.ensures
     ) (record {
       handle = c.handle_value-handle.ensures.length;
       code = c.input_value-code.ensures.length;

@@ -1,4 +1,4 @@
-use Rattle.std.proofs.Common.{◌++◌, ◌∷◌, [], refl, ap}
+use Rattle.std.proofs.Common.{◌++◌, ◌∷◌, [], true, refl, ap}
 use Rattle.dpe_handles.specs.declared.row.Row.{Row}
 use Rattle.dpe_tree.specs.Tree.{context}
 use Rattle.dpe_model.specs.Step.{taken_out, renamed}
@@ -6,6 +6,8 @@ use Rattle.dpe_core.specs.Contexts.{child_of}
 use Rattle.dpe_core.proofs.Owned.{row_is_live}
 use Rattle.dpe_core.proofs.Places.{is_live_place}
 use Rattle.dpe_core.proofs.Exits.{changed, within_here, depth_here, unborn_here, last_of_child, last_of_parent, room_again, keeps_more, rows_with_child}
+use Rattle.dpe_core.specs.Kept.{row_of}
+use Rattle.dpe_core.proofs.Marks.{mark_of_child, mark_of_parent, mark_again, mark_anew, parent_differs, seen_here}
 use Rattle.dpe_core.proofs.contexts.Contexts.derive_retaining.Goals as goal
 
 pub cdis-requires : goal.cdis-requires
@@ -33,6 +35,14 @@ issue-requires-clause-last g c =
     let i = c.self.inside in
     last_of_child i.seed (context i.tree) i.table c.spend-row.new.table c.args.self.now c.args.at c.args.child.now c.row_at.result _ c.row_at.ensures c.self.view_is c.spend-row.ensures.rest c.requires.last
 
+pub issue-requires-clause-mark : goal.issue-requires-clause-mark
+issue-requires-clause-mark g c =
+    let i = c.self.inside in
+    let e = c.spend-row.ensures in
+    mark_of_child c.spend-row.new.table c.args.child.now c.row_at.result _ c.row_at.ensures
+    (mark_anew i.seed (context i.tree) i.table c.spend-row.new.table c.args.self.now c.args.at c.spend-row.result c.self.view_is e.rising e.row e.rest
+    c.args.child.now.default true c.args.child.now.locality (c.requires.marks (row_of (context i.tree) c.spend-row.result) (seen_here i.seed (context i.tree) i.table c.spend-row.new.table c.args.self.now c.args.at c.spend-row.result c.self.view_is e.rising e.row e.rest)))
+
 pub issue-requires-2-clause-room : goal.issue-requires-2-clause-room
 issue-requires-2-clause-room g c =
     let i = c.self.inside in
@@ -43,6 +53,15 @@ issue-requires-2-clause-last g c =
     let i = c.self.inside in
     last_of_parent c.spend-row.new.table c.issue.new.self c.args.child.now c.row_at.result _ c.args.parent c.row_at.ensures c.issue.ensures c.requires.rising
     (last_of_child i.seed (context i.tree) i.table c.spend-row.new.table c.args.self.now c.args.at c.args.child.now c.row_at.result _ c.row_at.ensures c.self.view_is c.spend-row.ensures.rest c.requires.last)
+
+pub issue-requires-2-clause-mark : goal.issue-requires-2-clause-mark
+issue-requires-2-clause-mark g c =
+    let i = c.self.inside in
+    let e = c.spend-row.ensures in
+    mark_of_parent c.spend-row.new.table c.issue.new.self c.args.child.now c.row_at.result c.spend-row.result _ c.row_at.ensures c.issue.ensures
+    (mark_again i.table c.spend-row.new.table c.args.at c.spend-row.result e.marks e.row e.rest)
+    (λ d. parent_differs i.seed (context i.tree) i.table c.spend-row.new.table c.args.self.now c.args.at c.spend-row.result c.self.view_is e.rising e.row e.rest
+    c.args.child.now.default true c.args.child.now.locality (c.requires.marks (row_of (context i.tree) c.spend-row.result) (seen_here i.seed (context i.tree) i.table c.spend-row.new.table c.args.self.now c.args.at c.spend-row.result c.self.view_is e.rising e.row e.rest)) d refl)
 
 pub invariant_of-self : goal.invariant_of-self
 invariant_of-self g c =

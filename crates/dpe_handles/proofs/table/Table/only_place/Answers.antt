@@ -1,5 +1,5 @@
 use Rattle.std.proofs.Common.{◌-◌, ◌/◌, length, sym, subst, arith}
-use Rattle.dpe_handles.proofs.Searching.{NotAbove, halves_fit, halves_next, not_above, above_more, only_one}
+use Rattle.dpe_handles.proofs.Searching.{NotAbove, halves_fit, halves_next, all_looks, not_above, above_more, only_one}
 use Rattle.dpe_handles.proofs.table.Table.only_place.Goals.{then-look-serial, else-look-serial}
 use Rattle.dpe_handles.proofs.table.Table.only_place.Goals as goal
 
@@ -17,7 +17,7 @@ loop-left-preserved c =
     let up = c.len-left.ensures.ascending in
     let rows = c.args.self.now in
     let fewer = c.loop-left.left - c.loop-left.left / 2 in
-    let halves = halves_next (length rows - 1) c.args.steps.now.taken c.loop-left.steps.taken c.look.new.steps.taken (c.loop-left.left - 1) (fewer - 1) c.look.ensures.counted (omega arith) (omega arith) i.halves in
+    let halves = halves_next (length rows - 1) c.args.steps.now.taken c.loop-left.steps.taken c.look.new.steps.taken (c.loop-left.left - 1) (fewer - 1) c.look.ensures.counted (omega arith) (omega arith) (omega arith) i.halves in
     elim c.if-look-serial.branch [
       | then-look-serial w ↦ (
           let at = w.at-is in
@@ -48,3 +48,11 @@ returns-clause-only c =
     let some = i.some in
     let one = c.loop-left-test.false in
     only_one c.args.self.now c.args.serial c.len-left.ensures.ascending c.loop-left.at (omega arith) i.floor (λ k d from lt. i.above k d (omega arith) lt)
+
+pub returns-clause-looks : goal.returns-clause-looks
+returns-clause-looks c =
+    let i = c.loop-left.invariant in
+    let in_rows = i.in_rows in
+    let some = i.some in
+    let one = c.loop-left-test.false in
+    all_looks (length c.args.self.now) (length c.args.self.now - 1) c.args.steps.now.taken c.loop-left.steps.taken (c.loop-left.left - 1) (omega arith) (omega arith) i.halves

@@ -1,17 +1,15 @@
-use Rattle.std.proofs.Common.{rules, ◌<◌, length, ap, subst, arith}
-use Rattle.dpe_handles.specs.Rows.{HasSerial}
-use Rattle.dpe_handles.proofs.Slots.{rows_count, serial_there}
+use Rattle.std.proofs.Common.{length, ap, ◌∙◌, arith}
+use Rattle.std.proofs.lemmas.List.{length-map}
+use Rattle.dpe_handles.proofs.Slots.{place_within, serial_there}
 use Rattle.dpe_handles.proofs.table.Table.serial.Goals as goal
+
+pub index-requires : goal.index-requires
+index-requires c =
+    let within = place_within c.self.inside.rows.items c.self.inside.order.items c.self.inside.live c.self.invariant.0 c.args.self.now c.self.view_is c.args.at c.index-slot.result.now c.requires c.index-slot.ensures in
+    let all = ap length c.self.invariant.1 ∙ length-map c.self.inside.rows.items _ in
+    omega arith
 
 pub returns : goal.returns
 returns c =
-    let t = c.self.invariant.0 in
-    let few = t.few in
-    let numbers = t.numbers in
-    let many = rows_count c.self.inside.rows.items c.self.inside.order.items c.self.inside.live (omega arith) in
-    let same = ap length c.self.view_is in
-    let lt = c.requires in
-    let within : c.index-slot.result.now < length c.self.inside.rows.items = search rules in
-    subst (λ rows. HasSerial rows c.args.at c.index.result.now) c.self.view_is
-    (serial_there c.self.inside.rows.items c.self.inside.order.items c.self.inside.serials.items c.self.inside.live c.args.at c.index-slot.result.now c.index.result.now
-    (omega arith) (omega arith) c.index-slot.ensures within c.self.invariant.1 c.index.ensures)
+    serial_there c.self.inside.rows.items c.self.inside.order.items c.self.inside.live c.self.invariant.0 c.args.self.now c.self.view_is c.args.at c.index-slot.result.now c.requires c.index-slot.ensures
+    c.self.inside.serials.items c.index.result.now c.self.invariant.1 c.index.ensures

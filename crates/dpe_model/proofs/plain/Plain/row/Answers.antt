@@ -1,4 +1,4 @@
-use Rattle.std.proofs.Common.{◌≡◌, ◌<◌, ap, sym, ◌∙◌, length, slice_get, Some, arith}
+use Rattle.std.proofs.Common.{◌<◌, ap, sym, ◌∙◌, length, slice_get, Some, arith}
 use Rattle.std.specs.Option.{option_map}
 use Rattle.std.proofs.lemmas.List.{length-map}
 use Rattle.dpe_model.specs.State.{Machine, IsRow}

@@ -1,6 +1,6 @@
 use Rattle.dpe_tree.specs.Tree.{context}
 use Rattle.dpe_core.proofs.Views.{found_handle, absent_handle}
-use Rattle.dpe_core.proofs.contexts.Contexts.find.Goals as goal
+use Rattle.dpe_core.proofs.contexts.Contexts.named.Goals as goal
 
 pub returns-clause-found : goal.returns-clause-found
 returns-clause-found c =
