@@ -7,4 +7,5 @@ pub mod Parsing
 pub mod Prints
 pub mod Records
 pub mod Replaying
+pub mod SomeThing
 pub mod Walking

@@ -85,13 +85,13 @@ judged_front live seed first H more h = legal_front seed (start first) H more h
 judged_front list seed first H more h = tt
 judged_front (connection caller number) seed first H more h = tt
 
-judged_fact : (mode : Mode) (P : Type 0) → Judges mode → Judged mode P → P
+pub judged_fact : (mode : Mode) (P : Type 0) → Judges mode → Judged mode P → P
 judged_fact check P j h = h
 judged_fact live P j h = h
 judged_fact list P j h = absurd j
 judged_fact (connection caller number) P j h = absurd j
 
-fact_judged : (mode : Mode) (P : Type 0) → P → Judged mode P
+pub fact_judged : (mode : Mode) (P : Type 0) → P → Judged mode P
 fact_judged check P h = h
 fact_judged live P h = h
 fact_judged list P h = tt

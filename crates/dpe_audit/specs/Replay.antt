@@ -139,7 +139,13 @@ IsVerdict (faulty front fault) = IsOfBytes fault
 IsVerdict (differing first H e) = Unit {0}
 IsVerdict (begun front) = ⊥
 
--- Bytes are found to be one thing, for one mode and seed. So a report's status and text come exactly where they hold.
+-- A list of bytes is found to be something, and one thing alone, for one mode and seed. So a report's status and text come
+-- exactly where they hold.
+abbrev pub SomeFinding : Type 0
+SomeFinding =
+    (mode : Mode) (seed bytes : List ℕ) →
+    (finding : Finding) × (left : Option (List ℕ)) × Finds mode seed (Some bytes) left finding × IsVerdict finding
+
 abbrev pub OneFinding : Type 0
 OneFinding =
     (mode : Mode) (seed bytes : List ℕ) (left other : Option (List ℕ)) (f g : Finding) →

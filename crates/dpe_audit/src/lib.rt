@@ -1,7 +1,7 @@
 //! Audits a journal: whether its history is legal, what lives after it, and what it has.
 #![tactic(auto)]
 
-ghost use Rattle.dpe_audit.specs.Replay.{OneFinding};
+ghost use Rattle.dpe_audit.specs.Replay.{OneFinding, SomeFinding};
 
 mod audit;
 mod judging;
@@ -15,7 +15,12 @@ mod words;
 
 pub use replay::replay_main;
 
-/// A journal's bytes are found to be one thing, for one mode and seed.
+/// Each list of bytes is found to be something, for one mode and seed.
+pub fn some_finding()
+    ensures { SomeFinding }
+{}
+
+/// And to be one thing alone.
 pub fn one_finding()
     ensures { OneFinding }
 {}

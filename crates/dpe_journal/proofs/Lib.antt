@@ -10,3 +10,4 @@ pub mod Parts
 pub mod Placing
 pub mod Sending
 pub mod Sharing
+pub mod Standing

@@ -84,8 +84,14 @@ SameAnswer left other e f (Ok next) (Err fault) = ⊥
 SameAnswer left other e f (Err fault) (Ok next) = ⊥
 SameAnswer left other e f (Err fault) (Err answer) = fault ≡ answer
 
--- One list of bytes, read from one stage and place on, has one answer, where no read fails. So each answer comes exactly
--- where what it says holds.
+-- A list of bytes, read from one stage and place on, has an answer, and where no read fails one alone. So each answer comes
+-- exactly where what it says holds.
+abbrev pub SomeAnswer : Type 0
+SomeAnswer =
+    (stage : Stage) (at : ℕ) (bytes : List ℕ) →
+    (left : Option (List ℕ)) × (e : Entry) × (result : Result Next RecordFault) ×
+    ReadsPart (Some bytes) left stage at e result × (result ≢ Err ReadFault)
+
 abbrev pub OneAnswer : Type 0
 OneAnswer =
     (stage : Stage) (at : ℕ) (bytes : List ℕ) (left other : Option (List ℕ)) (e f : Entry) (result answer : Result Next RecordFault) →

@@ -3,7 +3,7 @@
 #![tactic(auto)]
 
 ghost use Rattle.dpe_journal.specs.Journal.{JournalIsOne};
-ghost use Rattle.dpe_journal.specs.Reading.{OneAnswer};
+ghost use Rattle.dpe_journal.specs.Reading.{OneAnswer, SomeAnswer};
 
 mod book;
 mod decode;
@@ -25,7 +25,12 @@ pub fn journal_is_one()
     ensures { JournalIsOne }
 {}
 
-/// Bytes that are read from one place on have one answer, where no read fails.
+/// Bytes that are read from one place on have an answer.
+pub fn some_answer()
+    ensures { SomeAnswer }
+{}
+
+/// And one alone, where no read fails.
 pub fn one_answer()
     ensures { OneAnswer }
 {}

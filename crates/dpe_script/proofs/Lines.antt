@@ -42,11 +42,11 @@ module _ {L : Type 0} (told : L → Told) (all : List Line) (lines : List code_l
     size = size ∙ i.size;
   }
 
-  pub going_stops : (cause : Cause) → ((e : L) → Fails cause (line_of line) (values_of values) (values_of next) (told (get_or now line.link e)) (told (get_or new line.link e)) x1 x2)
+  pub going_stops : (cause : Cause) → ((e : L) → CausedBy cause (told (get_or now line.link e)) (told (get_or new line.link e)) f1 f2) → ((e : L) → Fails cause (line_of line) (values_of values) (values_of next) (told (get_or now line.link e)) (told (get_or new line.link e)) x1 x2)
       → Stops told all old new x0 x2 cause line.number
-  going_stops cause fails =
+  going_stops cause caused fails =
       running_stops told all (lines_are (drop (at + 1) lines)) (line_of line) old now new x0 x1 x2 (values_of values) (values_of next)
-      (running_at told all lines at d old now x0 x1 (values_of values) lt i.running) within size others i.size cause fails
+      (running_at told all lines at d old now x0 x1 (values_of values) lt i.running) within size others i.size i.kept f1 f2 cause caused fails
 
   pub going_caused : (cause : Cause) → ((e : L) → CausedBy cause (told (get_or now line.link e)) (told (get_or new line.link e)) f1 f2) → RunCausedBy told cause old new f0 f2
   going_caused cause caused = stopped_by told old now new line.link i.kept within i.size others f0 f1 f2 cause i.out caused

@@ -1,7 +1,7 @@
 -- What the loop over the lines keeps, and how it ends.
 use Rattle.std.proofs.Common.{◌≡◌, ℕ, suc, ◌+◌, ◌<◌, Bool, true, false, List, [], ◌∷◌, ◌++◌, length, drop, get_or, Option, Some, inl, inr, refl, sym, ap, subst, ◌∙◌, append_assoc, append-nil, arith}
 use native.Mathlib.Decide.{ℕ_discrete}
-use Rattle.std.proofs.lemmas.List.{get_or_default}
+use Rattle.std.proofs.lemmas.List.{get_or_default, take_at}
 use Rattle.std.specs.Prelude.{◌==◌, if◌then◌else◌, filter, flat_map}
 use Rattle.std.specs.Io.KnownBytes.{Consumes, Appends}
 use Rattle.std.proofs.KnownBytes.{Consumes-nil, Consumes-trans, Appends-nil, Appends-trans}
@@ -13,7 +13,7 @@ use Rattle.dpe_link.specs.Reading.{IsNoFrame}
 use Rattle.dpe_script.specs.Script.{Line}
 use Rattle.dpe_script.specs.Meaning.{Values, no_values, Answer, IsAnswerTo, asked_of, answer_payload, after, sent_payload, Posted, posted, posts, frames_on, sent, got, said_of, said}
 use Rattle.dpe_io.specs.Told.{Told, KeepsCounts}
-use Rattle.dpe_script.specs.Run.{AreAnswers, next_line, EachLink, AppendsFront, IsWhole, IsFront, IsRefused, IsNoReply, Exchanges, IsCutOff, IsUnanswered, RunsWhole, StopsAtLink, StopsAtReply, StopsPrinting, Stops, Fails, LinkFailed, LinksKept, SomeLinkFailed, CausedBy, RunCausedBy}
+use Rattle.dpe_script.specs.Run.{AreAnswers, next_line, EachLink, AppendsFront, answered, IsWhole, IsFront, IsCut, IsFailed, IsRefused, IsNoReply, Exchanges, IsCutOff, IsUnanswered, RunsWhole, StopsAtLink, StopsAtReply, StopsPrinting, Stops, Fails, LinkFailed, LinksKept, SomeLinkFailed, CausedBy, RunCausedBy}
 use Rattle.dpe_script.specs.CodeScript.{line_of, lines_are}
 use Rattle.dpe_script.specs.declared.script.Line as code_line
 use Rattle.dpe_script.specs.CodeValues.{values_of, IsReady}
@@ -22,7 +22,7 @@ use Rattle.dpe_script.specs.declared.run.Cause.{Cause}
 use Rattle.dpe_script.specs.declared.run.Cause.TheVariants.{Link, Reply, Output}
 use Rattle.dpe_io.specs.Causes.{Rose}
 use Rattle.dpe_script.proofs.Lists.{drop_step}
-use Rattle.dpe_text.proofs.Fronts.{then_front, front_more}
+use Rattle.dpe_text.proofs.Fronts.{then_front}
 
 -- a line and its answer
 pub record Done : Type 0 where
@@ -234,10 +234,10 @@ module _ (xs : List Done) (line : Line) (k : ℕ) (o m n : Told) (passed : Passe
       (part, none, got_part part n.left (Consumes-trans o.left m.left n.left (got_by xs k) part passed.1 taken)),
     )
 
-    front_other : (line.link ≡ k → ⊥) → IsFront all (answers_in xs) k o m
-    front_other e = (
-      subst (λ (t : List ℕ). AppendsFront o.written m.written t) (append-nil before ∙ sym (sent_other e)) (front_more o.written m.written before [] passed.0),
-      ([], inl refl, got_nothing),
+    whole_other : (line.link ≡ k → ⊥) → IsWhole all (answers_in xs) k o m
+    whole_other e = (
+      subst (λ (t : List ℕ). Appends o.written m.written t) (sym (sent_other e)) passed.0,
+      subst (λ (t : List ℕ). Consumes o.left m.left t) (sym got_all) passed.1,
     )
 
     refused_own : line.link ≡ k → Appends m.written n.written own → ((taken : List ℕ) × IsNoReply line.act n.left taken × Consumes m.left n.left taken) → IsRefused line all (answers_in xs) k o n
@@ -252,22 +252,22 @@ module _ (xs : List Done) (line : Line) (k : ℕ) (o m n : Told) (passed : Passe
       ([], inl (e, refl), got_nothing),
     )
 
--- what passed so far is a front of what is sent, whatever follows
-passed_front : (xs : List Done) (rest : List Line) (k : ℕ) (o n : Told) → Passed xs k o n → IsFront (lines_in xs ++ rest) (answers_in xs) k o n
-passed_front xs rest k o n passed = (
-  subst (λ (t : List ℕ). AppendsFront o.written n.written t) (sym (sent_split k xs rest)) (front_more o.written n.written (frames_on k (posts_by no_values xs)) (frames_on k (next_post (values_by no_values xs) rest)) passed.0),
-  (
-    [],
-    inl refl,
-    subst (λ (t : List ℕ). Consumes o.left n.left t) (sym (append-nil (got (lines_in xs ++ rest) (answers_in xs) k) ∙ got_split xs rest k)) passed.1,
-  ),
-)
-
 passed_whole : (xs : List Done) (k : ℕ) (o n : Told) → Passed xs k o n → IsWhole (lines_in xs ++ []) (answers_in xs) k o n
 passed_whole xs k o n passed = (
   subst (λ (t : List ℕ). Appends o.written n.written t) (sym (sent_split k xs [] ∙ append-nil (frames_on k (posts_by no_values xs)))) passed.0,
   subst (λ (t : List ℕ). Consumes o.left n.left t) (sym (got_split xs [] k)) passed.1,
 )
+
+answered_split : (xs : List Done) (rest : List Line) → lines_in xs ++ [] ≡ answered (lines_in xs ++ rest) (answers_in xs)
+answered_split xs rest =
+    append-nil (lines_in xs)
+    ∙ sym (take_at (lines_in xs) rest (length (answers_in xs)) (sym (length_split xs ∙ ap length (append-nil (lines_in xs)))))
+
+-- what passed so far is all of the lines that were answered, whatever follows
+passed_answered : (xs : List Done) (rest : List Line) (k : ℕ) (o n : Told) → Passed xs k o n
+    → IsWhole (answered (lines_in xs ++ rest) (answers_in xs)) (answers_in xs) k o n
+passed_answered xs rest k o n passed =
+    subst (λ (ls : List Line). IsWhole ls (answers_in xs) k o n) (answered_split xs rest) (passed_whole xs k o n passed)
 
 -- ---- the exits
 
@@ -293,11 +293,11 @@ module _ {L : Type 0} (told : L → Told) (lines rest : List Line) (line : Line)
   abbrev is_now : Told
   is_now = told (get_or new line.link some)
 
-  -- P of each link from what passed over it: of that of the line, and of the others
-  each_other : (P : ℕ → Told → Told → Type 0)
-      → ((o : Told) → Passed r.done line.link o was → P line.link o is_now)
-      → ((k : ℕ) (o m : Told) → (line.link ≡ k → ⊥) → Passed r.done k o m → P k o m) → EachLink told P old new
-  each_other P own other k d lt = elim (ℕ_discrete line.link k) [ yes e ↦ at_line e | no e ↦ elsewhere e ]
+  -- P of each link from Q of it so far: of that of the line, and of the others
+  each_by : (Q P : ℕ → Told → Told → Type 0) → EachLink told Q old now
+      → ((o : Told) → Q line.link o was → P line.link o is_now)
+      → ((k : ℕ) (o m : Told) → (line.link ≡ k → ⊥) → Q k o m → P k o m) → EachLink told P old new
+  each_by Q P so_far own other k d lt = elim (ℕ_discrete line.link k) [ yes e ↦ at_line e | no e ↦ elsewhere e ]
     where
       at_line : line.link ≡ k → P k (told (get_or old k d)) (told (get_or new k d))
       at_line e =
@@ -305,13 +305,18 @@ module _ {L : Type 0} (told : L → Told) (lines rest : List Line) (line : Line)
           let there : k < length new = omega (arith, e, within, size) in
           let a : told (get_or now k d) ≡ was = ap told (get_or_default now k d some here ∙ ap (λ (i : ℕ). get_or now i some) (sym e)) in
           let b : is_now ≡ told (get_or new k d) = ap told (ap (λ (i : ℕ). get_or new i some) e ∙ get_or_default new k some d there) in
-          let p : Passed r.done line.link (told (get_or old k d)) was =
-          subst (λ (m : Told). Passed r.done line.link (told (get_or old k d)) m) a (subst (λ (i : ℕ). Passed r.done i (told (get_or old k d)) (told (get_or now k d))) (sym e) (r.links k d lt)) in
+          let p : Q line.link (told (get_or old k d)) was =
+          subst (λ (m : Told). Q line.link (told (get_or old k d)) m) a (subst (λ (i : ℕ). Q i (told (get_or old k d)) (told (get_or now k d))) (sym e) (so_far k d lt)) in
           subst (λ (n : Told). P k (told (get_or old k d)) n) b (subst (λ (i : ℕ). P i (told (get_or old k d)) is_now) e (own (told (get_or old k d)) p))
 
       elsewhere : (line.link ≡ k → ⊥) → P k (told (get_or old k d)) (told (get_or new k d))
       elsewhere e =
-          subst (λ (n : Told). P k (told (get_or old k d)) n) (ap told (sym (others k d e))) (other k (told (get_or old k d)) (told (get_or now k d)) e (r.links k d lt))
+          subst (λ (n : Told). P k (told (get_or old k d)) n) (ap told (sym (others k d e))) (other k (told (get_or old k d)) (told (get_or now k d)) e (so_far k d lt))
+
+  each_other : (P : ℕ → Told → Told → Type 0)
+      → ((o : Told) → Passed r.done line.link o was → P line.link o is_now)
+      → ((k : ℕ) (o m : Told) → (line.link ≡ k → ⊥) → Passed r.done k o m → P k o m) → EachLink told P old new
+  each_other P own other = each_by (Passed r.done) P r.links own other
 
   -- the line was answered
   module _ (answer : Answer) (is : IsAnswerTo (asked_of line.act) answer) (after_it : next ≡ after values line.act answer)
@@ -343,7 +348,7 @@ module _ {L : Type 0} (told : L → Told) (lines rest : List Line) (line : Line)
         (record {
           answers = answers_in xs;
           each = answers_split xs rest (done_more r.done (done_of line answer) r.each is);
-          links = λ k d lt. passed_front xs rest k (told (get_or old k d)) (told (get_or new k d)) (links_more k d lt);
+          links = λ k d lt. passed_answered xs rest k (told (get_or old k d)) (told (get_or new k d)) (links_more k d lt);
           printed =
               subst (λ (t : List ℕ). AppendsFront x0 x2 t) (sym (said_split xs rest ∙ said_more r.done (done_of line answer)))
               (then_front x0 x1 x2 (said_by r.done) (said_of line answer) r.printed printed);
@@ -353,8 +358,20 @@ module _ {L : Type 0} (told : L → Told) (lines rest : List Line) (line : Line)
   said_so_far same =
       subst (λ (t : List ℕ). Appends x0 x2 t) (sym (said_split r.done (line ∷ rest))) (subst (λ (x : Option (List ℕ)). Appends x0 x (said_by r.done)) (sym same) r.printed)
 
-  pub running_cut_off : IsCutOff line.act values was is_now → x2 ≡ x1 → StopsAtLink told lines old new x0 x2 line.number
-  running_cut_off (front, read) same =
+  since_then : (o : Told) → KeepsCounts o was → LinkFailed was is_now → LinkFailed o is_now
+  since_then o kept (inl reads) = inl (subst (λ (n : ℕ). Rose n is_now.read_faults) kept.0 reads)
+  since_then o kept (inr writes) = inr (subst (λ (n : ℕ). Rose n is_now.write_faults) kept.1 writes)
+
+  -- the line's link alone failed
+  failed_alone : LinksKept told old now → LinkFailed was is_now → EachLink told (IsFailed line) old new
+  failed_alone kept failed =
+      each_by (λ k o m. KeepsCounts o m) (IsFailed line) kept
+      (λ o same. inr (refl, since_then o same failed))
+      (λ k o m e same. inl (e, same))
+
+  pub running_cut_off : length now ≡ length old → LinksKept told old now → LinkFailed was is_now → IsCutOff line.act values was is_now → x2 ≡ x1
+      → StopsAtLink told lines old new x0 x2 line.number
+  running_cut_off whole kept failed (front, read) same =
       subst (λ (ls : List Line). StopsAtLink told ls old new x0 x2 line.number) (sym r.split)
       (record {
         answers = answers_in r.done;
@@ -362,10 +379,12 @@ module _ {L : Type 0} (told : L → Told) (lines rest : List Line) (line : Line)
         each = answers_split r.done (line ∷ rest) r.each;
         next = next_split r.done line rest;
         is = refl;
+        within = omega arith;
         links =
-            each_other (IsFront (lines_in r.done ++ (line ∷ rest)) (answers_in r.done))
-            (λ o p. front_own r.done line line.link o was is_now p rest refl (subst (λ (v : Values). AppendsFront was.written is_now.written (frame (sent_payload v line.act))) r.values_are front) read)
-            (λ k o m e p. front_other r.done line k o m m p rest e);
+            each_other (IsCut line (lines_in r.done ++ (line ∷ rest)) (answers_in r.done))
+            (λ o p. inr (refl, front_own r.done line line.link o was is_now p rest refl (subst (λ (v : Values). AppendsFront was.written is_now.written (frame (sent_payload v line.act))) r.values_are front) read))
+            (λ k o m e p. inl (e, whole_other r.done line k o m m p rest e));
+        failed = failed_alone kept failed;
         printed = said_so_far same;
       })
 
@@ -410,13 +429,14 @@ module _ {L : Type 0} (told : L → Told) (lines rest : List Line) (line : Line)
   pub next_running : ((d : L) → Exchanges line Appends values next (told (get_or now line.link d)) (told (get_or new line.link d)) x1 x2) → IsRunning told lines rest old new x0 x2 next
   next_running f = let d = some_of now line.link within in running_on told lines rest line old now new x0 x1 x2 values next r d within size others (f d)
 
-  pub running_stops : length now ≡ length old → (cause : Cause) → ((d : L) → Fails cause line values next (told (get_or now line.link d)) (told (get_or new line.link d)) x1 x2)
+  pub running_stops : length now ≡ length old → LinksKept told old now → (f1 f2 : ℕ) (cause : Cause)
+      → ((d : L) → CausedBy cause (told (get_or now line.link d)) (told (get_or new line.link d)) f1 f2) → ((d : L) → Fails cause line values next (told (get_or now line.link d)) (told (get_or new line.link d)) x1 x2)
       → Stops told lines old new x0 x2 cause line.number
-  running_stops whole Link f =
-      let d = some_of now line.link within in running_cut_off told lines rest line old now new x0 x1 x2 values next r d within size others (f d).0 (f d).1
-  running_stops whole Reply f =
+  running_stops whole kept f1 f2 Link c f =
+      let d = some_of now line.link within in running_cut_off told lines rest line old now new x0 x1 x2 values next r d within size others whole kept (c d).0 (f d).0 (f d).1
+  running_stops whole kept f1 f2 Reply c f =
       let d = some_of now line.link within in running_refused told lines rest line old now new x0 x1 x2 values next r d within size others whole (f d).0 (f d).1
-  running_stops whole Output f =
+  running_stops whole kept f1 f2 Output c f =
       let d = some_of now line.link within in running_output told lines rest line old now new x0 x1 x2 values next r d within size others (f d)
 
 -- ---- counts

@@ -1,12 +1,12 @@
 -- What stands at each status, from the end that it tells.
-use Rattle.std.proofs.Common.{◌≡◌, ◌≢◌, ℕ, ◌==◌, List, Option, ◌⊎◌, inl, inr, refl, sym, ap, subst, ◌∙◌, arith}
+use Rattle.std.proofs.Common.{◌≡◌, ◌≢◌, ℕ, ◌+◌, ◌==◌, List, Option, ◌⊎◌, inl, inr, refl, sym, ap, subst, ◌∙◌, arith}
 use Rattle.std.specs.Prelude.{if◌then◌else◌}
 use Rattle.std.specs.Io.KnownBytes.{Appends}
 use Rattle.dpe_io.specs.Causes.{Rose}
 use Rattle.dpe_io.specs.Told.{Kind}
-use Rattle.dpe_script.specs.Script.{Line, right, bad_line, script_of}
+use Rattle.dpe_script.specs.Script.{Line, right, bad_line, max_script, script_of}
 use Rattle.dpe_io.specs.Told.{Told}
-use Rattle.dpe_script.specs.Client.{ForScript, TellsScript, TellBytes, TellAnswers, IfRight, IfBad, RunsOnLinks, FailsAtLink, FailsAtReply, Unprinted, bad_line_said, KindKept, KindFailed, Unfailed, WordsEnd, WordsCausedBy, IsStatus, status_of, links_in}
+use Rattle.dpe_script.specs.Client.{LoadsNone, ForScript, TellsScript, TellBytes, TellAnswers, IfRight, IfBad, RunsOnLinks, FailsAtLink, FailsAtReply, Unprinted, bad_line_said, KindKept, KindFailed, Unfailed, WordsEnd, WordsCausedBy, IsStatus, status_of, links_in}
 use Rattle.dpe_script.specs.declared.end.End.{End}
 use Rattle.dpe_script.specs.declared.end.End.TheVariants.{Done, NoMemory, NoScript, BadScript, LinkFault, BadReply, OutputFault}
 use Rattle.dpe_script.proofs.Completing.{answers_told}
@@ -65,7 +65,10 @@ module _ {F L : Type 0} (r : Ran F L) where
   at_no_memory e = let f = at NoMemory e in f.holds
 
   pub at_no_script : r.n ≡ 4 → (r.new ≡ r.old) × (r.x1 ≡ r.x0)
-  at_no_script e = at NoScript e
+  at_no_script e = let h = at NoScript e in (h.1, h.2)
+
+  pub at_unloaded : r.n ≡ 4 → LoadsNone r.left r.faults (max_script + 1) r.file_old r.file_new
+  at_unloaded e = let h = at NoScript e in h.0
 
   pub at_bad : r.n ≡ 13 → ForScript r.left r.faults r.words r.file_old r.file_new (λ count script. IfBad script (λ number. Appends r.x0 r.x1 (bad_line_said number)))
   at_bad e = let f = at BadScript e in record { text = f.text; loads = f.loads; holds = f.holds.1 }

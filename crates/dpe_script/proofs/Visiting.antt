@@ -1,18 +1,18 @@
 -- Links that were opened, had lines run on them, and were handed back.
-use Rattle.std.proofs.Common.{◌≡◌, ℕ, ◌+◌, List, [], ◌++◌, length, take, drop, get_or, append-nil, Option, Result, Ok, Err, inl, inr, refl, sym, ap, subst, ◌∙◌, arith}
+use Rattle.std.proofs.Common.{◌≡◌, ℕ, ◌+◌, List, [], ◌++◌, length, take, drop, get_or, append-nil, Option, Result, Ok, Err, inr, sym, ap, subst, ◌∙◌, arith}
 use Rattle.std.specs.Prelude.{OnOk, IfErr}
 use Rattle.std.proofs.lemmas.List.{take_at}
-use Rattle.std.specs.Io.KnownBytes.{Consumes}
+use Rattle.std.proofs.Math.Seq.{take-length}
 use Rattle.dpe_io.specs.Told.{Kind}
 use Rattle.dpe_script.specs.Script.{Line}
-use Rattle.dpe_script.specs.Meaning.{sent, got, said}
+use Rattle.dpe_script.specs.Meaning.{said}
 use Rattle.dpe_io.specs.Told.{Told}
-use Rattle.dpe_script.specs.Run.{AppendsFront, RunsWhole, StopsAtLink, StopsAtReply, StopsPrinting, Stops, HasRunCause, RunCausedBy}
+use Rattle.dpe_script.specs.Run.{AppendsFront, IsWhole, RunsWhole, StopsAtLink, StopsAtReply, StopsPrinting, Stops, HasRunCause, RunCausedBy}
 use Rattle.dpe_script.specs.Client.{AllOpen, AllReturn, OpensFront, OnLinks, KindFailed, LinesEnd, LinesStop, HasLinesCause, LinesCausedBy, RunsOnLinks, FailsPrinting, in_answers}
 use Rattle.dpe_script.specs.declared.run.Cause.{Cause}
 use Rattle.dpe_script.specs.declared.run.Cause.TheVariants.{Link, Reply, Output}
 use Rattle.dpe_script.specs.declared.run.LineFault.{LineFault}
-use Rattle.dpe_text.proofs.Fronts.{then_front, front_more}
+use Rattle.dpe_text.proofs.Fronts.{then_front}
 use Rattle.dpe_script.proofs.Opening.{AreFaultless, open_out, return_out, visit_kept, visit_failed, visit_unopened, visit_out}
 
 -- the elements of a list that was lent as a whole
@@ -82,11 +82,9 @@ whole_unsent : {L : Type 0} (told : L → Told) (lines : List Line) (opened clos
 whole_unsent told lines opened closed x0 x1 x2 w front = record {
   answers = w.answers;
   each = w.each;
-  links = λ k d lt. (
-    subst (λ (t : List ℕ). AppendsFront (told (get_or opened k d)).written (told (get_or closed k d)).written t) (append-nil (sent lines w.answers k))
-        (front_more (told (get_or opened k d)).written (told (get_or closed k d)).written (sent lines w.answers k) [] (w.links k d lt).0),
-    ([], inl refl, subst (λ (t : List ℕ). Consumes (told (get_or opened k d)).left (told (get_or closed k d)).left t) (sym (append-nil (got lines w.answers k))) (w.links k d lt).1),
-  );
+  links = λ k d lt.
+      subst (λ (ls : List Line). IsWhole ls w.answers k (told (get_or opened k d)) (told (get_or closed k d)))
+      (sym (ap (λ (n : ℕ). take n lines) w.all ∙ take-length lines)) (w.links k d lt);
   printed = subst (λ (t : List ℕ). AppendsFront x0 x2 t) (append-nil (said lines w.answers)) (then_front x0 x1 x2 (said lines w.answers) [] w.printed front);
 }
 

@@ -5,6 +5,7 @@ use Rattle.std.specs.Fmt.{decimal}
 use Rattle.std.specs.Io.KnownBytes.{Consumes, Appends, IsAtEnd}
 use Rattle.dpe_io.specs.Causes.{Rose}
 use Rattle.dpe_io.specs.Told.{Kind, Opens, OpensNone, Returns, Placed}
+use Rattle.dpe_link.specs.Reading.{TakesPart}
 use Rattle.dpe_script.specs.Script.{Line, Script, right, bad_line, script_of, max_script}
 use Rattle.dpe_script.specs.Meaning.{Answer, got}
 use Rattle.dpe_io.specs.Told.{Told}
@@ -72,6 +73,20 @@ module _ {F : Type 0} (left : F → Option (List ℕ)) (faults : F → ℕ) wher
     pub read : Consumes (left opened) (left closed) text
     pub few : length text ≤ room
     pub whole : length text < room → IsAtEnd (left closed)
+
+  -- A file was opened, failed before so much was taken of it, and was handed back.
+  pub record LoadsPart (room : ℕ) (old new : Kind F) : Type 0 where
+    pub opened : F
+    pub closed : F
+    pub mid : Kind F
+    pub opens : Opens old opened mid
+    pub returns : Returns mid (faults closed) closed new
+    pub part : TakesPart (left opened) (left closed) room
+    pub failed : Rose (faults opened) (faults closed)
+
+  -- no file could be opened, or none read
+  abbrev pub LoadsNone : ℕ → Kind F → Kind F → Type 0
+  LoadsNone room old new = OpensNone old new ⊎ LoadsPart room old new
 
   -- The script that the words name was read, and has P for the number of links.
   pub record ForScript (words : List (List ℕ)) (old new : Kind F) (P : ℕ → Script → Type 0) : Type 0 where
@@ -238,7 +253,8 @@ Unfailed old new = KindFailed old new → ⊥
 -- how a run with right words ends: without a script that could be read, or over the one that was
 abbrev pub WordsEnd : {F L : Type 0} → End → (F → Option (List ℕ)) → (F → ℕ) → (L → Told) → List (List ℕ)
     → Kind F → Kind F → Kind L → Kind L → Option (List ℕ) → Option (List ℕ) → Type 0
-WordsEnd NoScript left faults told words file_old file_new old new out_old out_new = (new ≡ old) × (out_new ≡ out_old)
+WordsEnd NoScript left faults told words file_old file_new old new out_old out_new =
+    LoadsNone left faults (max_script + 1) file_old file_new × (new ≡ old) × (out_new ≡ out_old)
 WordsEnd end left faults told words file_old file_new old new out_old out_new =
     ForScript left faults words file_old file_new (λ count script. Ends end told count script old new out_old out_new)
 

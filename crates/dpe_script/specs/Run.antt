@@ -1,5 +1,5 @@
 -- How the lines of a script end, and what passes over each link until then.
-use Rattle.std.specs.Prelude.{◌≡◌, ℕ, ◌<◌, ◌≤◌, List, [], ◌∷◌, ◌++◌, length, slice_index_or, Option, Some, None, ◌⊎◌, Result, MatchResult}
+use Rattle.std.specs.Prelude.{◌≡◌, ℕ, ◌<◌, ◌≤◌, List, [], ◌∷◌, ◌++◌, length, take, slice_index_or, Option, Some, None, ◌⊎◌, Result, MatchResult}
 use Rattle.std.specs.Io.KnownBytes.{Consumes, Appends, IsAtEnd}
 use Rattle.dpe_link.specs.Frames.{frame, told_length}
 use Rattle.dpe_link.specs.Reading.{IsNoFrame}
@@ -140,11 +140,25 @@ abbrev pub IsWhole : List Line → List Answer → ℕ → Told → Told → Typ
 IsWhole lines answers link old new =
     Appends old.written new.written (sent lines answers link) × Consumes old.left new.left (got lines answers link)
 
+-- the lines that were answered
+abbrev pub answered : List Line → List Answer → List Line
+answered lines answers = take (length answers) lines
+
 -- a front was sent, and behind the answers less than a frame was taken
 abbrev pub IsFront : List Line → List Answer → ℕ → Told → Told → Type 0
 IsFront lines answers link old new =
     AppendsFront old.written new.written (sent lines answers link)
     × ((part : List ℕ) × IsNoFrame part × Consumes old.left new.left (got lines answers link ++ part))
+
+-- that holds of the link of the line; on another all was sent, and just the answers were taken
+abbrev pub IsCut : Line → List Line → List Answer → ℕ → Told → Told → Type 0
+IsCut line lines answers link old new =
+    ((line.link ≡ link → ⊥) × IsWhole lines answers link old new) ⊎ ((line.link ≡ link) × IsFront lines answers link old new)
+
+-- the link of the line failed, and no other
+abbrev pub IsFailed : Line → ℕ → Told → Told → Type 0
+IsFailed line link old new =
+    ((line.link ≡ link → ⊥) × KeepsCounts old new) ⊎ ((line.link ≡ link) × LinkFailed old new)
 
 -- all was sent, and behind the answers nothing was taken, or on the link of the line what is no reply to it
 abbrev pub IsRefused : Line → List Line → List Answer → ℕ → Told → Told → Type 0
@@ -163,14 +177,16 @@ module _ {L : Type 0} (told : L → Told) (lines : List Line) (old new : List L)
     pub links : EachLink told (IsWhole lines answers) old new
     pub printed : Appends out_old out_new (said lines answers)
 
-  -- a link failed at the line of this number
+  -- the link of the line of this number failed there
   pub record StopsAtLink (number : ℕ) : Type 0 where
     pub answers : List Answer
     pub line : Line
     pub each : AreAnswers lines answers
     pub next : next_line lines answers ≡ Some line
     pub is : line.number ≡ number
-    pub links : EachLink told (IsFront lines answers) old new
+    pub within : line.link < length old
+    pub links : EachLink told (IsCut line lines answers) old new
+    pub failed : EachLink told (IsFailed line) old new
     pub printed : Appends out_old out_new (said lines answers)
 
   -- what came for the line of this number is no reply
@@ -184,11 +200,11 @@ module _ {L : Type 0} (told : L → Told) (lines : List Line) (old new : List L)
     pub links : EachLink told (IsRefused line lines answers) old new
     pub printed : Appends out_old out_new (said lines answers)
 
-  -- the output failed within the text of the answers
+  -- the output failed within the text of the answers; each link had just the commands that were answered, and their answers
   pub record StopsPrinting : Type 0 where
     pub answers : List Answer
     pub each : AreAnswers lines answers
-    pub links : EachLink told (IsFront lines answers) old new
+    pub links : EachLink told (IsWhole (answered lines answers) answers) old new
     pub printed : AppendsFront out_old out_new (said lines answers)
 
   abbrev pub Stops : Cause → ℕ → Type 0

@@ -1,10 +1,10 @@
 //! The client's top call.
-ghost use Rattle.std.specs.Prelude.{◌≡◌, ◌≢◌, ◌↔◌, ◌⊎◌, ◌+◌, ◌≤◌, ◌<◌, All, IfOk, IfErr, List, ℕ, [], false, true, length, take};
+ghost use Rattle.std.specs.Prelude.{◌≡◌, ◌≢◌, ◌↔◌, ◌⊎◌, ◌+◌, ◌≤◌, ◌<◌, All, IfOk, IfErr, OnErr, List, ℕ, [], false, true, length, take};
 ghost use Rattle.std.specs.List.{list_all};
 ghost use Rattle.std.specs.Vec.{vec_capacity};
 ghost use Rattle.std.specs.Io.KnownBytes.{Appends};
 ghost use Rattle.dpe_io.specs.Causes.{Rose};
-ghost use Rattle.dpe_script.specs.Client.{is_path, are_right as are_words_right, links_in, bad_line_said, fault_said, Loads, KindKept, KindFailed, HasKindCause, Ends, EndCausedBy, WordsEnd, WordsCausedBy, IsStatus, status_of, ForScript, ForLines, IfBad, RunsOnLinks, FailsAtLink, FailsAtReply, Unprinted, Unfailed, TellsScript, TellBytes, TellAnswers};
+ghost use Rattle.dpe_script.specs.Client.{is_path, are_right as are_words_right, links_in, bad_line_said, fault_said, Loads, LoadsNone, KindKept, KindFailed, HasKindCause, Ends, EndCausedBy, WordsEnd, WordsCausedBy, IsStatus, status_of, ForScript, ForLines, IfBad, RunsOnLinks, FailsAtLink, FailsAtReply, Unprinted, Unfailed, TellsScript, TellBytes, TellAnswers};
 ghost use Rattle.dpe_script.specs.CodeNames.{names_of};
 ghost use Rattle.dpe_script.specs.CodeScript.{AreBelow, AreKnown, IsLineInRange, IsLineKnown, lines_are};
 ghost use Rattle.dpe_script.specs.CodeValues.{IsReady, values_of};
@@ -52,6 +52,8 @@ fn load<D: Dock>(dock: &mut D, path: &str, room: &mut [u8]) -> Result<usize, Fai
     ensures bound { IfOk result (λ count. count ≤ length room.new) }
     ensures loads { IfOk result (λ count. Loads D.File.left D.File.faults (length room.new)
         (D.scripts dock.old) (D.scripts dock.new) (take count room.new)) }
+    ensures fails { OnErr result (LoadsNone D.File.left D.File.faults (length room.new)
+        (D.scripts dock.old) (D.scripts dock.new)) }
     ensures cause { HasKindCause result (D.scripts dock.old) (D.scripts dock.new) }
     ensures back { (D.scripts dock.new).out ≡ (D.scripts dock.old).out }
     ensures links { D.links dock.new ≡ D.links dock.old }
@@ -256,9 +258,11 @@ pub fn client_main<D: Dock, O: Sink>(alloc: Global, words: &[&str], dock: &mut D
     ensures words { (result ≡ 2) ↔ (are_words_right (texts words.now) ≡ false) }
     ensures untouched { result ≡ 2 → (dock.new ≡ dock.old) × (out.new ≡ out.old) }
 
-    // 3, want of memory, and 4: no link is opened, and nothing is printed.
+    // 3, want of memory, and 4: no link is opened, and nothing is printed. At 4 the script couldn't be opened, or not read.
     ensures no_memory { result ≡ 3 → (D.links dock.new ≡ D.links dock.old) × (O.bytes out.new ≡ O.bytes out.old) }
     ensures no_script { result ≡ 4 → (D.links dock.new ≡ D.links dock.old) × (O.bytes out.new ≡ O.bytes out.old) }
+    ensures unloaded { result ≡ 4 → LoadsNone D.File.left D.File.faults (max_script + 1) (D.scripts dock.old)
+        (D.scripts dock.new) }
 
     // 13: the script is bad, and its first bad line is printed. No link is opened.
     ensures bad { result ≡ 13 → ForScript D.File.left D.File.faults (texts words.now) (D.scripts dock.old) (D.scripts dock.new)

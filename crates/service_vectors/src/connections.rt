@@ -6,7 +6,7 @@ use crate::journals::{book_of, tell_entry};
 use crate::told::{DIFFERS, Runs, SMALL_PIECES, WHOLE, bytes};
 use dpe_connections::{End, Room, Tally, Worker, serve_connection, serve_worker};
 use dpe_desk::Desk;
-use dpe_io::{MemConn, MemDoor, MemEntropy, MemSink, MemSource};
+use dpe_io::{Door, MemConn, MemDoor, MemEntropy, MemSink, MemSource};
 use dpe_journal::Book;
 use std::alloc::{AllocError, Global};
 use std::sync::Wait;
@@ -329,6 +329,17 @@ fn tell_tally(told: &mut String, tally: &Tally) -> Told {
     Ok(())
 }
 
+// Tells what is left unread of each connection, of so many at most, that still waits at a door.
+fn tell_waiting(told: &mut String, door: &mut MemDoor, most: usize) -> Told {
+    for _ in 0..most {
+        match door.next() {
+            Ok(Some(conn)) => bytes(told, ", waiting ", conn.source().left())?,
+            _ => break,
+        }
+    }
+    Ok(())
+}
+
 // Tells the tally, how many entries the book has, and what each connection got that was handed back.
 fn tell_worked(told: &mut String, worked: &Worked) -> Told {
     tell_tally(told, &worked.tally)?;
@@ -339,8 +350,8 @@ fn tell_worked(told: &mut String, worked: &Worked) -> Told {
     Ok(())
 }
 
-/// What a worker tallies, how many entries it makes over a book of so many places, and what each connection got that
-/// was handed back. It may serve at most so many connections.
+/// What a worker tallies, how many entries it makes over a book of so many places, what each connection got that was
+/// handed back, and what each sends that still waits. It may serve at most so many connections.
 pub(crate) fn work<R: Wait>(rt: &R, alloc: Global, words: &[Word<'_>], told: &mut String) -> Told {
     let [capacity, each, failing, words @ ..] = words else {
         return Err(RowFault::Unreadable);
@@ -349,6 +360,7 @@ pub(crate) fn work<R: Wait>(rt: &R, alloc: Global, words: &[Word<'_>], told: &mu
     let each = each.number::<u32>()?;
     let failing = failing.numbers(alloc)?;
     let door = door_of(alloc, &sent_of(alloc, words)?, &failing, &[], &[])?;
-    let worked = work_on(rt, alloc, capacity, each, door)?;
-    tell_worked(told, &worked)
+    let mut worked = work_on(rt, alloc, capacity, each, door)?;
+    tell_worked(told, &worked)?;
+    tell_waiting(told, &mut worked.door, words.len())
 }

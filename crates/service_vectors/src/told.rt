@@ -1,6 +1,6 @@
 //! What the rows tell in common.
 use std::alloc::AllocError;
-use table_rows::{RowFault, Told, Word, put, show_alike};
+use table_rows::{RowFault, Told, Word, put, show, show_alike};
 
 /// How many bytes a read gives at most: each journal and each connection is read in these ways too, and tells the same.
 pub(crate) const SMALL_PIECES: [usize; 2] = [1, 7];
@@ -8,12 +8,18 @@ pub(crate) const SMALL_PIECES: [usize; 2] = [1, 7];
 /// A piece that takes all bytes of a row.
 pub(crate) const WHOLE: usize = 9_000;
 
+// The most bytes that are told as they are.
+const FULL: usize = 1_000;
+
 /// What is told where the ways differ.
 pub(crate) static DIFFERS: &str = ", and differs in other pieces";
 
-/// Tells bytes behind their name.
+/// Tells bytes behind their name; more than 1,000 that aren't alike by their number and their SHA-512.
 pub(crate) fn bytes(told: &mut String, name: &str, bytes: &[u8]) -> Told {
     put(told, name)?;
+    if bytes.len() > FULL {
+        return show(told, bytes);
+    }
     show_alike(told, bytes)
 }
 

@@ -1,5 +1,5 @@
 use Rattle.dpe_grammar.specs.Values.{texts}
-use Rattle.dpe_script.proofs.Statuses.{Ran, at_done, at_no_memory, at_no_script, at_bad, at_bad_unopened, at_link, at_reply, at_unprinted, script_fault, link_fault, out_fault, script_kept, links_kept, out_kept, has_status, is_not_two, refused, complete, unanswered}
+use Rattle.dpe_script.proofs.Statuses.{Ran, at_done, at_no_memory, at_no_script, at_unloaded, at_bad, at_bad_unopened, at_link, at_reply, at_unprinted, script_fault, link_fault, out_fault, script_kept, links_kept, out_kept, has_status, is_not_two, refused, complete, unanswered}
 use Rattle.dpe_script.proofs.client.client_main.Goals as goal
 
 pub returns : goal.returns
@@ -31,6 +31,7 @@ returns g c =
       untouched = λ e. absurd (is_not_two r e);
       no_memory = at_no_memory r;
       no_script = at_no_script r;
+      unloaded = at_unloaded r;
       bad = at_bad r;
       bad_unopened = at_bad_unopened r;
       link = at_link r;

@@ -1,5 +1,6 @@
-use Rattle.std.proofs.Common.{◌-◌, length, take, drop, refl, ap, ◌∙◌}
+use Rattle.std.proofs.Common.{ℕ, ◌-◌, length, take, drop, refl, ap, subst, ◌∙◌}
 use Rattle.dpe_grammar.specs.Values.{texts}
+use Rattle.dpe_script.specs.Client.{LoadsNone}
 use Rattle.dpe_script.proofs.Wording.{words_end, words_caused, words_answered, link_words}
 use Rattle.dpe_script.proofs.client.run_words.Goals as goal
 
@@ -30,7 +31,12 @@ returns-in-Ok g c = record {
 
 pub returns-in-Err : goal.returns-in-Err
 returns-in-Err g c = record {
-  ends = (c.in-Err.ensures.links, refl);
+  ends = (
+    subst (λ (n : ℕ). LoadsNone g.D.File.Source.left g.D.File.Source.faults n (g.D.Dock.scripts c.args.dock.now) (g.D.Dock.scripts c.load.new.dock))
+        (c.load.auto.room ∙ c.requires.room) c.in-Err.ensures.fails,
+    c.in-Err.ensures.links,
+    refl,
+  );
   cause = (c.in-Err.ensures.cause, (ap (λ k. k.failed) c.in-Err.ensures.links, ap (λ k. k.faults) c.in-Err.ensures.links), refl);
   links_back = ap (λ k. k.out) c.in-Err.ensures.links;
   script_back = c.in-Err.ensures.back;

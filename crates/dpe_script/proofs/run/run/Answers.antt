@@ -32,7 +32,7 @@ returns-in-Err-clause-stops g c =
     c.args.links.now c.loop-line.links c.ask_on.new.links (g.O.Sink.bytes c.args.out.now) (g.O.Sink.bytes c.loop-line.out) (g.O.Sink.bytes c.ask_on.new.out)
     (g.O.Sink.faults c.args.out.now) (g.O.Sink.faults c.loop-line.out) (g.O.Sink.faults c.ask_on.new.out) c.args.values.now c.loop-line.values c.ask_on.new.values
     c.loop-line-test.true c.loop-line.invariant (still_below _ _ _ (c.requires.link c.loop-line.line-index _ c.loop-line-test.true) c.loop-line.auto.links) c.ask_on.auto.links
-    c.ask_on.ensures.others c.in-Err.cause c.in-Err.ensures.fault
+    c.ask_on.ensures.others c.in-Err.cause c.in-Err.ensures.cause c.in-Err.ensures.fault
 
 pub returns-in-Err-clause-cause : goal.returns-in-Err-clause-cause
 returns-in-Err-clause-cause g c =
